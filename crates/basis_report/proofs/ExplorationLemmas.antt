@@ -7,7 +7,7 @@ use Rattle.fca_model.specs.Implications.{Rule}
 use Rattle.fca_model.specs.Questions.{open_questions}
 use Rattle.fca_model.specs.Exploration.{State, SetEntry, Settings, opening, events_of}
 use Rattle.fca_model.proofs.CourseLemmas.{run_settings}
-use Rattle.explore_state.specs.History.{History, state_of, open_of}
+use Rattle.explore_state.specs.History.{ExploreModel, state_of, open_of}
 use Rattle.expert_wire.specs.Replies.{numbered_rule}
 use Rattle.expert_wire.specs.Texts.{line_end}
 use Rattle.expert_scripts.specs.Transcripts.{transcript}
@@ -89,7 +89,7 @@ explore_text-parts t settings H T eT G eG S eS J eJ J' eJ' A eA Q eQ A' eA' Q' e
 
 -- ---- the text by its pieces
 
-pub explore_text-pieces : (h : History) → transcript_of h ++ (lists_of h ++ basis_of h)
+pub explore_text-pieces : (h : ExploreModel) → transcript_of h ++ (lists_of h ++ basis_of h)
     ≡ explore_text h.opening.table h.opening.settings h.journal
 explore_text-pieces h =
     let t = h.opening.table in
@@ -113,7 +113,7 @@ three_parts d0 d1 d2 d3 a b c e0 e1 e2 e3 =
     let all : d3 ≡ (([] ++ a) ++ b) ++ c = e3 ∙ ap (λ z. z ++ c) (e2 ∙ ap (λ z. z ++ b) (e1 ∙ ap (λ z. z ++ a) e0)) in
     all ∙ append_assoc a b c
 
-pub lists_of-parts : (h : History) (T : NamedContext) → T ≡ h.opening.table → (J : List SetEntry) → J ≡ h.journal → (S : List Rule)
+pub lists_of-parts : (h : ExploreModel) (T : NamedContext) → T ≡ h.opening.table → (J : List SetEntry) → J ≡ h.journal → (S : List Rule)
     → S ≡ h.opening.settings.known
     → (A : List Rule) → A ≡ (state_of h).accepted → (Q : List Rule) → Q ≡ open_of h
     → recorded_section J ++ (accepted_section T.attributes (length S) A ++ open_section T.attributes Q) ≡ lists_of h

@@ -9,7 +9,7 @@ use Rattle.fca_model.specs.Exploration.{State, Settings, SetEvent, SetReply, Set
 use Rattle.fca_model.specs.Exploration.{journal_of}
 use Rattle.fca_model.specs.declared.Event.TheVariants.{Row}
 use Rattle.fca_model.specs.declared.Reply.TheVariants.{Taken}
-use Rattle.explore_state.specs.History.{History, state_of, open_of}
+use Rattle.explore_state.specs.History.{ExploreModel, state_of, open_of}
 use Rattle.expert_wire.specs.Texts.{line_end, ordinal, pattern, full_text}
 use Rattle.expert_wire.specs.Replies.{numbered_rule}
 use Rattle.expert_scripts.specs.declared.fault.ScriptFault.{ScriptFault}
@@ -90,18 +90,18 @@ text_before_basis t settings H =
 -- ---- its pieces
 
 -- the transcript
-abbrev pub transcript_of : History → Text
+abbrev pub transcript_of : ExploreModel → Text
 transcript_of h = transcript h.opening.table.attributes h.opening.settings h.journal
 
 -- the sections between the transcript and the basis
-abbrev pub lists_of : History → Text
+abbrev pub lists_of : ExploreModel → Text
 lists_of h =
     recorded_section h.journal
     ++ (accepted_section h.opening.table.attributes (length h.opening.settings.known) (state_of h).accepted
     ++ open_section h.opening.table.attributes (open_of h))
 
 -- the section of the basis
-abbrev pub basis_of : History → Text
+abbrev pub basis_of : ExploreModel → Text
 basis_of h = basis_section h.opening.table.attributes (state_of h).accepted (open_of h)
 
 -- ---- the history that a text spells

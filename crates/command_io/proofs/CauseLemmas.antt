@@ -7,7 +7,7 @@ use Rattle.fca_io.specs.Shelves.{Told, MayExceed}
 use Rattle.value_tables.specs.Values.{ValueTable}
 use Rattle.command_io.specs.Readings.{Reading, file_read, MayRefuse}
 use Rattle.command_io.specs.Causes.{IsFetchStop, IsFileStop, IsValuesStop, IsPlanStop}
-use Rattle.command_io.specs.Known.{IsKnownSaidStop}
+use Rattle.command_io.specs.Known.{IsImplicationsStop}
 use Rattle.command_io.specs.Endings.{IsRefusal}
 use Rattle.command_io.specs.declared.stop.Origin.{Origin}
 use Rattle.command_io.specs.declared.stop.Origin.TheVariants.{Known}
@@ -43,6 +43,6 @@ pub fetch-plan : (t : ValueTable) (told : Told) (rose : Type 0) (origin : Origin
 fetch-plan t told rose origin (BadPlan at fault) is = absurd is
 fetch-plan t told rose origin _ is = is
 
-pub fetch-known_said : (n : ℕ) (told : Told) (rose : Type 0) (s : Stop) → IsFetchStop told rose Known s → IsKnownSaidStop n told rose s
+pub fetch-known_said : (n : ℕ) (told : Told) (rose : Type 0) (s : Stop) → IsFetchStop told rose Known s → IsImplicationsStop n told rose s
 fetch-known_said n told rose (NoKnown fault) is = absurd is
 fetch-known_said n told rose _ is = is

@@ -8,7 +8,7 @@ use Rattle.explore_state.specs.Faults.{first_break}
 use Rattle.command_io.specs.Readings.{Reading, then, MayRead, MayRefuse, Rises}
 use Rattle.command_io.specs.Readings.Reading.{Refused, Read}
 use Rattle.command_io.specs.Forms.{table_read}
-use Rattle.command_io.specs.Known.{unbroken, if_respected, known_file_read, known_read, Start, start_read, IsKnownSaidStop, IsKnownFileStop}
+use Rattle.command_io.specs.Known.{unbroken, if_respected, known_file_read, known_read, Start, start_read, IsImplicationsStop, IsKnownFileStop}
 use Rattle.command_io.specs.Known.{IsKnownStop}
 use Rattle.command_io.specs.declared.stop.Stop.{Stop}
 use Rattle.command_io.specs.declared.stop.Stop.TheVariants.{Fault}
@@ -42,14 +42,14 @@ Rises-before counts between after file later rose =
 
 -- ---- a file is at fault where a count rose for it
 
-IsKnownSaidStop-more : (n : ℕ) (told : Told) (rose rose' : Type 0) (s : Stop) → (rose → rose') → IsKnownSaidStop n told rose s
-    → IsKnownSaidStop n told rose' s
-IsKnownSaidStop-more n told rose rose' (Fault at) more is = (is.0, more is.1)
-IsKnownSaidStop-more n told rose rose' _ more is = is
+IsImplicationsStop-more : (n : ℕ) (told : Told) (rose rose' : Type 0) (s : Stop) → (rose → rose') → IsImplicationsStop n told rose s
+    → IsImplicationsStop n told rose' s
+IsImplicationsStop-more n told rose rose' (Fault at) more is = (is.0, more is.1)
+IsImplicationsStop-more n told rose rose' _ more is = is
 
 IsKnownFileStop-more : (table : NamedContext) (told : Told) (rose rose' : Type 0) (s : Stop) → (rose → rose')
     → IsKnownFileStop table told rose s → IsKnownFileStop table told rose' s
-IsKnownFileStop-more table told rose rose' s more (inl said) = inl (IsKnownSaidStop-more table.context.width told rose rose' s more said)
+IsKnownFileStop-more table told rose rose' s more (inl said) = inl (IsImplicationsStop-more table.context.width told rose rose' s more said)
 IsKnownFileStop-more table told rose rose' s more (inr broken) = inr broken
 
 -- the shelf tells the same later, and a count that rose since then rose since before

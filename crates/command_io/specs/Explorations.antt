@@ -10,7 +10,7 @@ use Rattle.fca_model.specs.Exploration.{SetEntry, SetReply, Settings, State, ope
 use Rattle.fca_model.specs.Exploration.{events_of, own, IsLegal}
 use Rattle.fca_model.specs.declared.Event.TheVariants.{Draw}
 use Rattle.fca_model.specs.declared.Reply.TheVariants.{Ask, Done}
-use Rattle.explore_state.specs.History.{Opening, History, opening_state}
+use Rattle.explore_state.specs.History.{Opening, ExploreModel, opening_state}
 use Rattle.explore_state.specs.Basis.{IsBasisBeside}
 
 -- the table as the opening of an exploration by so many experts under the settings
@@ -23,7 +23,7 @@ pub record Exploration : Type 0 where
   pub journal : List SetEntry
 
 -- the exploration of a history
-abbrev pub exploration_of : History → Exploration
+abbrev pub exploration_of : ExploreModel → Exploration
 exploration_of h = record { opening = h.opening; journal = h.journal }
 
 -- the state at one moment: after these entries
@@ -35,8 +35,8 @@ abbrev pub last_state : Exploration → State
 last_state r = state_at r r.journal
 
 -- the questions open after it, beside what was known at the opening
-abbrev pub open_at : Exploration → List Rule
-open_at r = open_questions r.opening.settings.known (last_state r).context (last_state r).accepted
+abbrev pub last_open : Exploration → List Rule
+last_open r = open_questions r.opening.settings.known (last_state r).context (last_state r).accepted
 
 -- A state as it is at each moment: the rows respect what is known; each accepted implication is a member of the basis of the rows as they
 -- are, beside what is known, and no two have one premise; no premise of an accepted one is larger than one of a member that waits; and each
@@ -74,4 +74,4 @@ pub record IsExplored (r : Exploration) : Type 0 where
   pub done : (before after : List SetEntry) (e : ℕ) (reply : SetReply)
       → r.journal ≡ before ++ record { event = Draw e; reply = reply } ∷ after
       → (reply ≡ Done) ↔ (open_in (state_at r before) ≡ [])
-  pub basis : open_at r ≡ [] → IsBasisBeside r.opening.settings.known (last_state r).context (last_state r).accepted
+  pub basis : last_open r ≡ [] → IsBasisBeside r.opening.settings.known (last_state r).context (last_state r).accepted

@@ -66,16 +66,16 @@ IsBreakStop S table origin stop =
     (found : ℕ × ℕ) × (first_break S 0 table.context.rows ≡ Some found) × (stop ≡ RowBreaks origin found.0 found.1)
 
 -- the stop for a file of implications between sets of width n: it could not be read, it is too long, or its bytes do not have the form
-abbrev pub IsKnownSaidStop : ℕ → Told → Type 0 → Stop → Type 0
-IsKnownSaidStop n told rose (Fault at) = (at ≡ Known) × rose
-IsKnownSaidStop n told rose (TooLong at) = (at ≡ Known) × MayExceed told FILE_BYTES
-IsKnownSaidStop n told rose (NoKnown fault) = IfHeld told (λ bytes. known_form bytes n ≡ Err fault)
-IsKnownSaidStop n told rose Memory = ⊤
-IsKnownSaidStop n told rose _ = ⊥
+abbrev pub IsImplicationsStop : ℕ → Told → Type 0 → Stop → Type 0
+IsImplicationsStop n told rose (Fault at) = (at ≡ Known) × rose
+IsImplicationsStop n told rose (TooLong at) = (at ≡ Known) × MayExceed told FILE_BYTES
+IsImplicationsStop n told rose (NoKnown fault) = IfHeld told (λ bytes. known_form bytes n ≡ Err fault)
+IsImplicationsStop n told rose Memory = ⊤
+IsImplicationsStop n told rose _ = ⊥
 
 -- the stop for such a file, or for a row of the table that breaks one of its implications
 abbrev pub IsKnownFileStop : NamedContext → Told → Type 0 → Stop → Type 0
-IsKnownFileStop table told rose stop = IsKnownSaidStop table.context.width told rose stop
+IsKnownFileStop table told rose stop = IsImplicationsStop table.context.width told rose stop
     ⊎ ((S : List Rule) × MayRead (implications_read table.context.width told) S × IsBreakStop S table File stop)
 
 -- the stop for the known file, if there is one

@@ -31,12 +31,12 @@ pub(crate) fn fetch_file<H: Shelf>(
 {
     match shelf.fetch(alloc, file.bytes(), FILE_BYTES) {
         Ok(bytes) => Ok(bytes),
-        Err(taken) => Err(fetch_stop(taken, origin)),
+        Err(taken) => Err(taken_stop(taken, origin)),
     }
 }
 
 /// The stop for bytes of this origin that could not be read.
-pub(crate) fn fetch_stop(taken: Taken, origin: Origin) -> Stop
+pub(crate) fn taken_stop(taken: Taken, origin: Origin) -> Stop
     ensures { result ≡ taken_stop taken origin }
 {
     match taken {

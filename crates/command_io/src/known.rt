@@ -10,7 +10,7 @@ ghost use Rattle.expert_scripts.specs.Known.{known_form};
 ghost use Rattle.command_io.specs.Readings.{formed, MayRead, MayRefuse, Rises, SameCounts};
 ghost use Rattle.command_io.specs.Causes.{UnlessFault};
 ghost use Rattle.command_io.specs.Known.{implications_read, known_file_read, known_read, start_of, start_read, IsBreakStop};
-ghost use Rattle.command_io.specs.Known.{IsKnownSaidStop, IsKnownFileStop, IsKnownStop, IsStartStop};
+ghost use Rattle.command_io.specs.Known.{IsImplicationsStop, IsKnownFileStop, IsKnownStop, IsStartStop};
 ghost use Rattle.command_io.specs.Endings.{IsRefusal};
 
 use crate::fetch::fetch_file;
@@ -114,7 +114,7 @@ fn load_implications<H: Shelf>(
     ensures known { IfOk result (λ list. MayRead (implications_read n (H.tells shelf.old file.now)) list.members) }
     ensures width { IfOk result (λ list. list.width ≡ n) }
     ensures refused { IfErr result (λ stop. IsRefusal stop → MayRefuse (implications_read n (H.tells shelf.old file.now))) }
-    ensures cause { IfErr result (IsKnownSaidStop n (H.tells shelf.old file.now)
+    ensures cause { IfErr result (IsImplicationsStop n (H.tells shelf.old file.now)
         (Rose (H.faults shelf.old file.now) (H.faults shelf.new file.now))) }
     ensures quiet { UnlessFault result (SameCounts (H.faults shelf.old) (H.faults shelf.new)) }
     ensures counted { H.fetches shelf.new ≡ option_map one_more (H.fetches shelf.old) }
@@ -132,7 +132,7 @@ fn implications_of(alloc: Global, bytes: &[u8], n: u32) -> Result<ImplicationLis
     ensures known { IfOk result (λ list. MayRead (formed (known_form bytes.now n)) list.members) }
     ensures width { IfOk result (λ list. list.width ≡ n) }
     ensures refused { IfErr result (λ stop. IsRefusal stop → MayRefuse (formed (known_form bytes.now n))) }
-    ensures cause { IfErr result (IsKnownSaidStop n (Some (Some bytes.now)) ⊥) }
+    ensures cause { IfErr result (IsImplicationsStop n (Some (Some bytes.now)) ⊥) }
 {
     match read_known(alloc, bytes, n) {
         Ok(list) => Ok(list),

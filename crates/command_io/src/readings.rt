@@ -16,7 +16,7 @@ ghost use Rattle.command_io.specs.Forms.{is_csv, table_formed, table_read, scrip
 ghost use Rattle.command_io.specs.Causes.{UnlessFault, IsFormStop, IsFileStop, IsScriptStop};
 ghost use Rattle.command_io.specs.Endings.{IsRefusal};
 
-use crate::fetch::{fetch_file, fetch_stop};
+use crate::fetch::{fetch_file, taken_stop};
 use crate::stop::{Origin, Stop};
 use context_table::Table;
 use csv_context::{CsvFault, read_csv};
@@ -112,7 +112,7 @@ pub fn load_script<S: Source>(alloc: Global, input: &mut S, n: u32) -> Result<Sc
 {
     let bytes = match read_all(alloc, input, FILE_BYTES) {
         Ok(bytes) => bytes,
-        Err(taken) => return Err(fetch_stop(taken, Origin::Input)),
+        Err(taken) => return Err(taken_stop(taken, Origin::Input)),
     };
     script_of(alloc, &bytes, n)
 }

@@ -12,7 +12,7 @@ use crate::cross_table::CrossTable;
 use crate::gathering::Gathering;
 use crate::node::{Candidates, Node};
 use crate::notes::{begin_notes, known_witnesses};
-use crate::scratch::{StepListPool, StepLists};
+use crate::scratch::{WorkListPool, WorkLists};
 use crate::steps::{Descent, enter, first_step, next_step, put_back};
 use attr_bits::Bits;
 use extent_places::{closure_at, last_member};
@@ -20,9 +20,9 @@ use fca_model::Memory;
 use lectic_concepts::{is_child, is_tried, note};
 use std::alloc::Global;
 
-/// A child of a node: its intent, the attribute that it comes from, and the number of the places that were found for it.
+/// The closure of a node's intent with one attribute more, which may be a child of the node.
 #[derive(Drop)]
-pub struct Child<const W: usize> {
+pub struct LargerIntent<const W: usize> {
     /// The intent.
     pub intent: Bits<W>,
     /// The attribute, from 0.
@@ -38,7 +38,7 @@ pub fn gather_branch<const W: usize>(
     crosses: &CrossTable<'_, W>,
     gathering: &mut Gathering<W>,
     node: &Node<'_, W>,
-    pool: &mut StepListPool<W>,
+    pool: &mut WorkListPool<W>,
 ) -> Result<(), Memory>
     requires { IsNode crosses.now node.now }
     ensures { OnOk result (Fills crosses.now gathering.old gathering.new (branch crosses.now node.now.intent.now node.now.from)) }
@@ -67,8 +67,8 @@ pub fn next_child<const W: usize>(
     crosses: &CrossTable<'_, W>,
     node: &Node<'_, W>,
     candidates: &Candidates<W>,
-    scratch: &mut StepLists,
-) -> Result<Option<Child<W>>, Memory>
+    scratch: &mut WorkLists,
+) -> Result<Option<LargerIntent<W>>, Memory>
     requires node { IsNode crosses.now node.now }
     requires candidates { AreCandidates crosses.now node.now.intent.now candidates.now }
     requires order { node.now.from ≤ candidates.now.end }
@@ -112,8 +112,8 @@ fn child_at<const W: usize>(
     crosses: &CrossTable<'_, W>,
     node: &Node<'_, W>,
     i: u32,
-    scratch: &mut StepLists,
-) -> Result<Option<Child<W>>, Memory>
+    scratch: &mut WorkLists,
+) -> Result<Option<LargerIntent<W>>, Memory>
     requires node { IsNode crosses.now node.now }
     requires inside { i < crosses.now.width }
     requires lacks { slice_index_or node.now.intent.now i false ≡ false }
@@ -134,16 +134,16 @@ fn child_at<const W: usize>(
     let a = node.intent;
     let _width = rows.width();
     have_room(&mut scratch.found, node.places.len())?;
-    let child = closure_with(crosses, node, i, &mut scratch.found);
-    if is_child(rows, a, i, &child.intent) {
-        return Ok(Some(child));
+    let larger = closure_with(crosses, node, i, &mut scratch.found);
+    if is_child(rows, a, i, &larger.intent) {
+        return Ok(Some(larger));
     }
     begin_notes(crosses, a, node.witnesses, &mut scratch.noted)?;
     note(
         rows,
         a,
         i,
-        &child.intent,
+        &larger.intent,
         node.from,
         crosses.supports(),
         &mut scratch.noted,
@@ -157,7 +157,7 @@ fn closure_with<const W: usize>(
     node: &Node<'_, W>,
     i: u32,
     found: &mut Vec<u16>,
-) -> Child<W>
+) -> LargerIntent<W>
     requires node { IsNode crosses.now node.now }
     requires inside { i < crosses.now.width }
     requires room { length node.now.places.now ≤ length found.old.items }
@@ -170,7 +170,7 @@ fn closure_with<const W: usize>(
     let _width = rows.width();
     let count = crosses.keep_having(i, node.places, found);
     let intent = closure_at(rows, &found[..count], &node.intent.with(i));
-    Child {
+    LargerIntent {
         intent,
         attribute: i,
         count,

@@ -12,7 +12,7 @@ use crate::cross_table::CrossTable;
 use crate::gathering::Gathering;
 use crate::node::Node;
 use crate::notes::{begin_notes, known_witnesses};
-use crate::scratch::{StepListPool, StepLists, take_lists};
+use crate::scratch::{WorkListPool, WorkLists, take_lists};
 use attr_bits::Bits;
 use extent_places::{FEW_OBJECTS, FewObjects, ObjectSet, SmallConcept, last_member, tries_of};
 use fca_model::Memory;
@@ -38,7 +38,7 @@ pub(crate) fn gather_apart<const W: usize>(
     crosses: &CrossTable<'_, W>,
     gathering: &mut Gathering<W>,
     node: &Node<'_, W>,
-    pool: &mut StepListPool<W>,
+    pool: &mut WorkListPool<W>,
 ) -> Result<(), Memory>
     requires few { length node.now.places.now ≤ FEW_OBJECTS }
     requires node { IsNode crosses.now node.now }
@@ -64,7 +64,7 @@ fn gather_few<const W: usize>(
     few: &FewObjects<W>,
     gathering: &mut Gathering<W>,
     node: &FewNode<'_, W>,
-    free: &mut Vec<StepLists>,
+    free: &mut Vec<WorkLists>,
 ) -> Result<(), Memory>
     requires { IsFewNode crosses.now few.now node.now }
     ensures { OnOk result (Fills crosses.now gathering.old gathering.new (branch crosses.now node.now.intent.now node.now.from)) }
@@ -127,16 +127,16 @@ fn few_child_at<const W: usize>(
 {
     let rows = crosses.rows();
     let a = node.intent;
-    let child = few.closure_with(rows, a, node.objects, i);
-    if is_child(rows, a, i, &child.intent) {
-        return Ok(Some(child));
+    let larger = few.closure_with(rows, a, node.objects, i);
+    if is_child(rows, a, i, &larger.intent) {
+        return Ok(Some(larger));
     }
     begin_notes(crosses, a, node.witnesses, noted)?;
     note(
         rows,
         a,
         i,
-        &child.intent,
+        &larger.intent,
         node.from,
         crosses.supports(),
         noted,

@@ -11,10 +11,10 @@ mod notes;
 mod scratch;
 mod steps;
 
-pub use branch::{Child, gather_branch, next_child};
+pub use branch::{LargerIntent, gather_branch, next_child};
 pub use cross_table::CrossTable;
 pub use gathering::Gathering;
 pub use names::{attribute_pieces, table_names};
 pub use node::{Candidates, Node};
 pub use notes::known_witnesses;
-pub use scratch::{StepListPool, StepLists};
+pub use scratch::{WorkListPool, WorkLists};

@@ -10,7 +10,7 @@ use std::alloc::Global;
 
 /// Two lists that a step of the walk writes on. Later steps use them again.
 #[derive(Drop)]
-pub struct StepLists {
+pub struct WorkLists {
     /// Places, of which the front was found last.
     pub found: Vec<u16>,
     /// For each attribute a member of the closure with it, or nothing.
@@ -19,30 +19,30 @@ pub struct StepLists {
 
 /// The lists that no step writes on at present, and the few objects that were set apart last.
 #[derive(Drop)]
-pub struct StepListPool<const W: usize> {
-    pub(crate) free: Vec<StepLists>,
+pub struct WorkListPool<const W: usize> {
+    pub(crate) free: Vec<WorkLists>,
     pub(crate) few: FewObjects<W>,
 }
 
-impl StepLists {
+impl WorkLists {
     /// Nothing found and nothing noted.
-    pub fn new(alloc: Global) -> StepLists
+    pub fn new(alloc: Global) -> WorkLists
         ensures { result.noted.items ≡ [] }
     {
-        StepLists {
+        WorkLists {
             found: Vec::new(alloc),
             noted: Vec::new(alloc),
         }
     }
 }
 
-impl<const W: usize> StepListPool<W> {
+impl<const W: usize> WorkListPool<W> {
     /// An empty pool, for walks over these rows.
-    pub fn new(alloc: Global, rows: &RowsOf<W>) -> Result<StepListPool<W>, Memory>
+    pub fn new(alloc: Global, rows: &RowsOf<W>) -> Result<WorkListPool<W>, Memory>
         ensures free { IfOk result (λ pool. pool.free.items ≡ []) }
         ensures few { IfOk result (λ pool. HasNoObject pool.few) }
     {
-        Ok(StepListPool {
+        Ok(WorkListPool {
             free: Vec::new(alloc),
             few: FewObjects::new(alloc, rows.width())?,
         })
@@ -50,12 +50,12 @@ impl<const W: usize> StepListPool<W> {
 }
 
 /// Takes free lists, or makes them. Nothing is noted there.
-pub(crate) fn take_lists(alloc: Global, free: &mut Vec<StepLists>) -> StepLists
+pub(crate) fn take_lists(alloc: Global, free: &mut Vec<WorkLists>) -> WorkLists
     ensures { result.noted.items ≡ [] }
 {
     if let Some(mut scratch) = free.pop() {
         scratch.noted.clear();
         return scratch;
     }
-    StepLists::new(alloc)
+    WorkLists::new(alloc)
 }

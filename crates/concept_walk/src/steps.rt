@@ -12,7 +12,7 @@ use crate::few_branch::gather_apart;
 use crate::gathering::Gathering;
 use crate::node::{Candidates, Node};
 use crate::notes::known_witnesses;
-use crate::scratch::{StepListPool, StepLists, take_lists};
+use crate::scratch::{WorkListPool, WorkLists, take_lists};
 use attr_bits::Bits;
 use extent_places::{last_member, pays_to_set_apart, tries_of};
 use fca_model::Memory;
@@ -36,7 +36,7 @@ pub(crate) struct Step<const W: usize> {
     /// The attributes from which a child may come.
     pub(crate) candidates: Candidates<W>,
     /// The lists to write on while a child is looked for.
-    pub(crate) scratch: StepLists,
+    pub(crate) scratch: WorkLists,
 }
 
 /// The outcome of the search for the next child.
@@ -57,7 +57,7 @@ pub(crate) fn enter<const W: usize>(
     crosses: &CrossTable<'_, W>,
     gathering: &mut Gathering<W>,
     node: &Node<'_, W>,
-    pool: &mut StepListPool<W>,
+    pool: &mut WorkListPool<W>,
 ) -> Result<Option<Candidates<W>>, Memory>
     requires { IsNode crosses.now node.now }
     ensures { IfOk result (λ left. HasEntered crosses.now gathering.old gathering.new node.now left) }
@@ -85,7 +85,7 @@ pub(crate) fn first_step<const W: usize>(
     crosses: &CrossTable<'_, W>,
     node: &Node<'_, W>,
     candidates: Candidates<W>,
-    pool: &mut StepListPool<W>,
+    pool: &mut WorkListPool<W>,
 ) -> Result<Step<W>, Memory>
     requires node { IsNode crosses.now node.now }
     requires candidates { AreCandidates crosses.now node.now.intent.now candidates }
@@ -114,7 +114,7 @@ pub(crate) fn next_step<const W: usize>(
     crosses: &CrossTable<'_, W>,
     gathering: &mut Gathering<W>,
     step: &mut Step<W>,
-    pool: &mut StepListPool<W>,
+    pool: &mut WorkListPool<W>,
 ) -> Result<Descent<W>, Memory>
     requires { IsStep crosses.now step.old }
     ensures { IfOk result (λ descent. HasDescended crosses.now gathering.old gathering.new step.old step.new descent) }
@@ -158,10 +158,10 @@ pub(crate) fn next_step<const W: usize>(
 /// Puts back the lists of the step. Later steps take them again, at the same depth those of the same length.
 pub(crate) fn put_back<const W: usize>(
     step: Step<W>,
-    free: &mut Vec<StepLists>,
+    free: &mut Vec<WorkLists>,
 ) -> Result<(), Memory> {
     free.push(step.scratch)?;
-    free.push(StepLists {
+    free.push(WorkLists {
         found: step.places,
         noted: step.witnesses,
     })?;

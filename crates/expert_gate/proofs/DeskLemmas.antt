@@ -6,7 +6,7 @@ use Rattle.std.specs.Prelude.{◌↔◌, IfOk, OnErr, IsErrOf}
 use Rattle.std.specs.Borrow.{GName}
 use Rattle.fca_model.specs.Exploration.{SetEvent, SetReply, SetEntry, expert_of, own, IsLegal}
 use Rattle.fca_model.specs.Widths.{HasWideReply}
-use Rattle.explore_state.specs.History.{Opening, History, opening_state, IsStep, IsSame}
+use Rattle.explore_state.specs.History.{Opening, ExploreModel, opening_state, IsStep, IsSame}
 use Rattle.turn_lock.specs.Histories.{StartsWith}
 use Rattle.turn_lock.specs.Passes.{Lock, PassModel, Badge, badge}
 use Rattle.turn_lock.specs.Passes.{TakesTurn}
@@ -96,7 +96,7 @@ module _ (gate : Lock Opening) (event : SetEvent) (p q : PassModel Opening SetEn
 
 -- ---- alone
 
-module _ (old new : History) (e : ℕ) (at : GName) (event : SetEvent) (H : List SetEntry) (is_journal : H ≡ new.journal)
+module _ (old new : ExploreModel) (e : ℕ) (at : GName) (event : SetEvent) (H : List SetEntry) (is_journal : H ≡ new.journal)
     (legal : IsLegal (opening_state new.opening) H)
     (wide : All (λ (entry : SetEntry). HasWideReply new.opening.table.context.width entry.reply) new.journal) where
   knows : KnowsHistory (alone_at new e at)

@@ -3,7 +3,7 @@ use Rattle.std.proofs.Common.{◌≡◌, List, [], ◌∷◌, ◌++◌, All, Res
 use Rattle.std.proofs.lemmas.List.Elements.{All-head, All-tail}
 use Rattle.fca_model.specs.Exploration.{SetEvent, SetReply, SetEntry}
 use Rattle.fca_model.specs.Widths.{HasWideReply}
-use Rattle.explore_state.specs.History.{Opening, History, IsStep}
+use Rattle.explore_state.specs.History.{Opening, ExploreModel, IsStep}
 use Rattle.turn_lock.specs.Passes.{PassModel}
 use Rattle.expert_gate.specs.Histories.{IsWideEntry}
 use Rattle.expert_gate.specs.Turns.{RepliesTo}
@@ -18,7 +18,7 @@ answer_wide o p q event (Ok reply) turn = All-last (IsWideEntry o) (p.seen ++ tu
     (subst (All (IsWideEntry o)) turn.seen turn.is_legal.wide)
 answer_wide o p q event (Err e) turn = tt
 
-pub step_wide : (old new : History) (event : SetEvent) (reply : SetReply) → IsStep old new event reply
+pub step_wide : (old new : ExploreModel) (event : SetEvent) (reply : SetReply) → IsStep old new event reply
     → All (λ (entry : SetEntry). HasWideReply new.opening.table.context.width entry.reply) new.journal
     → HasWideReply old.opening.table.context.width reply
 step_wide old new event reply step wide =

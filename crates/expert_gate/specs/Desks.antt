@@ -3,7 +3,7 @@ use Rattle.std.specs.Prelude.{◌≡◌, ◌↔◌, ◌⊎◌, ℕ, ◌-◌, Opt
 use Rattle.std.specs.Borrow.{GName}
 use Rattle.fca_model.specs.Exploration.{SetEvent, SetReply, SetEntry, own}
 use Rattle.fca_model.specs.Widths.{HasWideReply}
-use Rattle.explore_state.specs.History.{Opening, History}
+use Rattle.explore_state.specs.History.{Opening, ExploreModel}
 use Rattle.turn_lock.specs.Histories.{StartsWith, own_of}
 use Rattle.turn_lock.specs.Passes.{Badge, PassModel, Lock, badge}
 use Rattle.turn_lock.specs.declared.fault.TurnFault.{TurnFault}
@@ -39,7 +39,7 @@ at_gate gate p place = record {
 }
 
 -- the desk of expert e, who has the exploration that a borrow holds alone: there is no pass, and turns are not counted
-abbrev pub alone_at : History → ℕ → GName → DeskState
+abbrev pub alone_at : ExploreModel → ℕ → GName → DeskState
 alone_at h e place = record {
   number = e;
   lock = None;

@@ -1,7 +1,7 @@
 -- The turns of experts: what each adds to the one history, and what its pass knows of it then.
 use Rattle.std.specs.Prelude.{◌≡◌, ◌≤◌, ◌↔◌, ℕ, Result, IfOk, IsErrOf, List, length}
 use Rattle.fca_model.specs.Exploration.{SetEvent, SetReply, SetEntry}
-use Rattle.explore_state.specs.History.{Opening, History, state_of, open_of}
+use Rattle.explore_state.specs.History.{Opening, ExploreModel, state_of, open_of}
 use Rattle.fca_model.specs.Widths.{HasWideReply}
 use Rattle.turn_lock.specs.Passes.{Lock, PassModel, badge, Entered, Looked, ClosesWith}
 use Rattle.turn_lock.specs.declared.fault.TurnFault.{TurnFault}
@@ -12,7 +12,7 @@ use Rattle.expert_gate.specs.declared.shared.Seen.{Seen}
 -- after a history: how many events, rows, accepted implications and open questions there are
 abbrev pub numbers_after : Opening → List SetEntry → Seen
 numbers_after o H =
-    let h : History = record { opening = o; journal = H; spare = 0 } in
+    let h : ExploreModel = record { opening = o; journal = H; spare = 0 } in
     record {
       events = length H;
       rows = length (state_of h).context.rows;

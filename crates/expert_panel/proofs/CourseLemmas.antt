@@ -20,7 +20,7 @@ use Rattle.fca_model.specs.Exploration.{State, Settings, SetEntry, opening, open
 use Rattle.fca_model.proofs.CourseLemmas.{run_settings}
 use Rattle.fca_model.proofs.ClosureLemmas.{known_hold}
 use Rattle.implication_closure.specs.Closing.{HaveWidth}
-use Rattle.explore_state.specs.History.{Opening, History, opening_state, state_of, open_of}
+use Rattle.explore_state.specs.History.{Opening, ExploreModel, opening_state, state_of, open_of}
 use Rattle.explore_state.proofs.OpenLemmas.{wide_conclusions}
 use Rattle.oracle_expert.specs.Counts.{answers_recorded_in, dropped}
 use Rattle.oracle_expert.specs.Oracles.{Recall, no_conflict}
@@ -41,7 +41,7 @@ use Rattle.expert_panel.specs.Explorations.{HasMadeAtMost, SeatsTurns, HasAgreed
 use Rattle.expert_panel.proofs.ShareLemmas.{Run}
 
 -- the rows of a new exploration respect what is known
-pub respecting_new : (h : History) → h.journal ≡ [] → IsValid (state_of h)
+pub respecting_new : (h : ExploreModel) → h.journal ≡ [] → IsValid (state_of h)
     → rows_respect h.opening.settings.known h.opening.table.context ≡ true
 unfolding state_after
 respecting_new h new v = (subst (λ (J : List SetEntry). IsValid (state_after (opening_state h.opening) (events_of J))) new v).known
@@ -157,7 +157,7 @@ module _ (o : Opening) (H : List SetEntry) (turns : ℕ) (oracles : List Recall)
         (known-intents C o.settings.known known) legal wide (intents_among C K.rows part) fronts (suc k)
         ∙ ap (λ (r : Recall). no_conflict r.table) mine
 
-    pub agreed : (explore : History) (spent : Bool) → explore.opening ≡ o → explore.journal ≡ H → (spent ≡ false → open_of explore ≡ [])
+    pub agreed : (explore : ExploreModel) (spent : Bool) → explore.opening ≡ o → explore.journal ≡ H → (spent ≡ false → open_of explore ≡ [])
         → HasAgreed C explore oracles spent
     agreed explore spent opened journal finished =
         let final : State = state_after first (events_of H) in

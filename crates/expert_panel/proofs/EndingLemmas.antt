@@ -14,7 +14,7 @@ use Rattle.fca_model.specs.Invariant.{rows_respect}
 use Rattle.fca_model.specs.Exploration.{State, Settings, SetEntry, state_after, events_of, own}
 use Rattle.fca_model.proofs.CourseLemmas.{run_settings}
 use Rattle.fca_model.proofs.ValidLemmas.{opening_valid}
-use Rattle.explore_state.specs.History.{Opening, History, opening_state, open_of}
+use Rattle.explore_state.specs.History.{Opening, ExploreModel, opening_state, open_of}
 use Rattle.turn_lock.specs.Passes.{PassModel, Badge, Lock, Belongs, IsFresh, badge, roll}
 use Rattle.turn_lock.proofs.ClosingLemmas.{roll-belongs, length-roll}
 use Rattle.expert_gate.specs.Turns.{HasClosed}
@@ -67,7 +67,7 @@ seats_of width gate (seat ∷ seats) belong fit =
 -- ---- the end
 
 module _ (gate : Lock Opening) (ps : List (PassModel Opening SetEntry)) (before : List Recall) (olds news : List (Seat Recall))
-    (explore : History) (closed : HasClosed gate.base explore.journal (passes news))
+    (explore : ExploreModel) (closed : HasClosed gate.base explore.journal (passes news))
     (some : 1 ≤ gate.passes) (roll_is : map badge ps ≡ roll gate) (fresh : All IsFresh ps) (count : length before ≡ gate.passes)
     (free : All (λ (r : Recall). r.conflicts ≡ no_conflict r.table) before) (seated_passes : passes olds ≡ ps)
     (seated_experts : experts olds ≡ before)

@@ -6,7 +6,7 @@ use Rattle.fca_model.specs.Context.{Context}
 use Rattle.fca_model.specs.Pseudo.{basis_known}
 use Rattle.fca_model.specs.Invariant.{SameMembers}
 use Rattle.fca_model.specs.Exploration.{SetEntry, IsLegal, own}
-use Rattle.explore_state.specs.History.{Opening, History, opening_state, state_of, open_of}
+use Rattle.explore_state.specs.History.{Opening, ExploreModel, opening_state, state_of, open_of}
 use Rattle.turn_lock.specs.Passes.{Lock}
 use Rattle.oracle_expert.specs.Counts.{answers_recorded_in, dropped}
 use Rattle.oracle_expert.specs.Oracles.{Recall, no_conflict}
@@ -37,7 +37,7 @@ is_out_of_memory (Some Memory) = true
 is_out_of_memory _ = false
 
 -- The exploration by oracles at the gate, as it ended with these oracles, and with one spent or none
-pub record HasEnded (gate : Lock Opening) (before : List Recall) (explore : History) (oracles : List Recall)
+pub record HasEnded (gate : Lock Opening) (before : List Recall) (explore : ExploreModel) (oracles : List Recall)
     (some_spent : Bool) : Type 0 where
   pub opening : explore.opening ≡ gate.base
   pub is_legal : IsLegal (opening_state gate.base) explore.journal
@@ -80,7 +80,7 @@ HasEvenRows oracle = All (λ row. length row ≡ oracle.table.context.width) ora
 -- What comes of oracles of tables with the intents of one context C: none dropped a row; and if none was spent, what was accepted is the
 -- basis of C beside what
 -- is known, and so is the basis of the recorded rows
-pub record HasAgreed (C : Context) (explore : History) (oracles : List Recall) (spent : Bool) : Type 0 where
+pub record HasAgreed (C : Context) (explore : ExploreModel) (oracles : List Recall) (spent : Bool) : Type 0 where
   pub kept : All (λ oracle. oracle.conflicts ≡ no_conflict oracle.table) oracles
   pub accepted : spent ≡ false → SameMembers (state_of explore).accepted (basis_known explore.opening.settings.known C)
   pub basis : spent ≡ false → basis_known explore.opening.settings.known (state_of explore).context

@@ -39,16 +39,16 @@ use Rattle.expert_sessions.proofs.LineLemmas.{before_last-snoc, before_last-All,
 
 -- what a turn is answered, what it enters, and that it is taken
 module _ (e : ℕ) (form : Result Request RequestFault) (event : SetEvent) (c d : DeskCount) (asks : Asks e form event)
-    (left : d.turns ≡ one_less c.turns) where
+    (left : d.left ≡ one_less c.left) where
   pub turn-answered : (turn : Result SetReply TurnFault)
       → IfOk turn (λ reply. d.entries ≡ c.entries ++ record { event = event; reply = reply } ∷ []) → OnErr turn (d.entries ≡ c.entries)
-      → (IsErrOf turn NoTurn → c.turns ≡ Some 0) × (c.turns ≡ Some 0 → IsErrOf turn NoTurn)
+      → (IsErrOf turn NoTurn → c.left ≡ Some 0) × (c.left ≡ Some 0 → IsErrOf turn NoTurn)
       → IfOk (said_of turn) (λ said. (made : List SetEntry) × (turns : ℕ) × Says e form said made turns × Enters c d made turns)
   turn-answered (Ok reply) entered same spent = (
     record { event = event; reply = reply } ∷ [],
     1,
     (event, asks, refl, refl),
-    record { added = entered; turns = one_less-taken c.turns d.turns left (λ none. let told = spent.1 none in cc) },
+    record { added = entered; turns = one_less-taken c.left d.left left (λ none. let told = spent.1 none in cc) },
   )
   turn-answered (Err NoTurnMemory) entered same spent = (
     [],
@@ -56,20 +56,20 @@ module _ (e : ℕ) (form : Result Request RequestFault) (event : SetEvent) (c d 
     (inl (event, asks, refl), refl),
     record {
       added = same ∙ sym (append-nil c.entries);
-      turns = one_less-taken c.turns d.turns left (λ none. let told = spent.1 none in cc);
+      turns = one_less-taken c.left d.left left (λ none. let told = spent.1 none in cc);
     },
   )
   turn-answered (Err NoTurn) entered same spent = tt
 
 -- no turn is left for what was asked
 pub turn-refused : (e : ℕ) (form : Result Request RequestFault) (event : SetEvent) (c d : DeskCount) → Asks e form event
-    → d.turns ≡ one_less c.turns → (turn : Result SetReply TurnFault)
-    → OnErr turn (d.entries ≡ c.entries) → (IsErrOf turn NoTurn → c.turns ≡ Some 0) × (c.turns ≡ Some 0 → IsErrOf turn NoTurn)
-    → IfErr (said_of turn) (λ ended. (ended ≡ Spent) × (d.turns ≡ Some 0) × Enters c d [] 0 × (asked : SetEvent) × Asks e form asked)
+    → d.left ≡ one_less c.left → (turn : Result SetReply TurnFault)
+    → OnErr turn (d.entries ≡ c.entries) → (IsErrOf turn NoTurn → c.left ≡ Some 0) × (c.left ≡ Some 0 → IsErrOf turn NoTurn)
+    → IfErr (said_of turn) (λ ended. (ended ≡ Spent) × (d.left ≡ Some 0) × Enters c d [] 0 × (asked : SetEvent) × Asks e form asked)
 turn-refused e form event c d asks left (Ok reply) same spent = tt
 turn-refused e form event c d asks left (Err NoTurnMemory) same spent = tt
 turn-refused e form event c d asks left (Err NoTurn) same spent =
-    let none = one_less-none c.turns d.turns left (spent.0 refl) in
+    let none = one_less-none c.left d.left left (spent.0 refl) in
     (refl, none.0, record { added = same ∙ sym (append-nil c.entries); turns = none.1 }, event, asks)
 
 -- no whole line was read
@@ -116,7 +116,7 @@ pub unturned : (t : NamedContext) (e : ℕ) (a b : EndState) (c d : DeskCount) (
     (event : SetEvent)
     → ReadsOn a b ahead ahead' → b.read_faults ≡ a.read_faults
     → HasFeedAt ahead' at → at ≤ LINE_BYTES → Asks e (request_form (take at ahead') t.context.width) event → ended ≡ Spent
-    → d.turns ≡ Some 0 → Enters c d [] 0
+    → d.left ≡ Some 0 → Enters c d [] 0
     → Halts t e a b c d ahead ended
 unturned t e a b c d ahead ahead' at ended event r quiet feed few asks s none enters = record {
   more = [];

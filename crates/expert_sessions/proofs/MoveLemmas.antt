@@ -83,12 +83,12 @@ leave-few (Some n) y z k p e =
     (p.0 - 1, e ∙ ap one_less p.1, omega arith)
 
 pub Enters-nil : (c : DeskCount) → Enters c c [] 0
-Enters-nil c = record { added = sym (append-nil c.entries); turns = TakesTurns-nil c.turns }
+Enters-nil c = record { added = sym (append-nil c.entries); turns = TakesTurns-nil c.left }
 
 pub Enters-trans : {c d f : DeskCount} {m m' : List SetEntry} {k l : ℕ} → Enters c d m k → Enters d f m' l → Enters c f (m ++ m') (k + l)
 Enters-trans {c} {d} {f} {m} {m'} {k} {l} x y = record {
   added = y.added ∙ ap (λ z. z ++ m') x.added ∙ append_assoc c.entries m m';
-  turns = TakesTurns-trans k l c.turns d.turns f.turns x.turns y.turns;
+  turns = TakesTurns-trans k l c.left d.left f.left x.turns y.turns;
 }
 
 pub Enters-equal : {c d : DeskCount} {m m' : List SetEntry} {k l : ℕ} → m ≡ m' → k ≡ l → Enters c d m k → Enters c d m' l

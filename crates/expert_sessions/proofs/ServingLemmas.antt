@@ -36,8 +36,8 @@ at_number P e p q r holds same number is =
     subst P (number ∙ sym (ap (λ (k : Badge Opening). k.number) badges) ∙ sym (ap (λ (k : PassModel Opening SetEntry). k.number) is)) holds
 
 pub at_pass : (t : NamedContext) (e lines : ℕ) (a b : EndState) (p q r : PassModel Opening SetEntry) (gate : Lock Opening) (ended : Ended)
-    → HasTalked t e lines a b (record { entries = p.own; turns = Some (p.turns - p.made) })
-    (record { entries = q.own; turns = Some (q.turns - q.made) }) ended
+    → HasTalked t e lines a b (record { entries = p.own; left = Some (p.turns - p.made) })
+    (record { entries = q.own; left = Some (q.turns - q.made) }) ended
     → TakesTurnsAtMost (lines + 1) (Some (p.turns - p.made)) (Some (q.turns - q.made))
     → Belongs gate p → IsFresh p → Some (badge q) ≡ Some (badge p) → e ≡ p.number → lines + 1 < gate.turns → r ≡ q
     → HasTalked t r.number lines a b (entered []) (entered r.own) ended
@@ -46,8 +46,8 @@ at_pass t e lines a b p q r gate ended x taken belongs fresh same number few is 
     let own_is : q.own ≡ r.own = sym (ap (λ (k : PassModel Opening SetEntry). k.own) is) in
     let none : p.own ≡ [] = fresh.1 in
     let y : HasTalked t e lines a b (entered p.own) (entered q.own) ended =
-    untold t e lines a b (record { entries = p.own; turns = Some (p.turns - p.made) })
-    (record { entries = q.own; turns = Some (q.turns - q.made) }) ended x
+    untold t e lines a b (record { entries = p.own; left = Some (p.turns - p.made) })
+    (record { entries = q.own; left = Some (q.turns - q.made) }) ended x
     (λ spent.
     let left : taken.0 ≡ 0 = (let was = taken.1 in cc) in
     let turns = belongs.turns in

@@ -53,11 +53,11 @@ spent_early t e lines a b c d ended y is = let x : HasServed t e lines a b c d S
 
 -- a line takes one turn at most
 pub served-few : {t : NamedContext} {e lines : ℕ} {a b : EndState} {c d : DeskCount} {ended : Ended} (k : ℕ) → lines ≤ k
-    → HasServed t e lines a b c d ended → TakesTurnsAtMost k c.turns d.turns
+    → HasServed t e lines a b c d ended → TakesTurnsAtMost k c.left d.left
 served-few {t} {e} {lines} {a} {b} {c} {d} k h x =
     let each = turns_of-few t.context.width e x.course.served x.course.each in
     let few = x.course.few in
-    TakesTurns-few (turns_of x.course.served) k c.turns d.turns x.enters.turns (omega arith)
+    TakesTurns-few (turns_of x.course.served) k c.left d.left x.enters.turns (omega arith)
 
 -- the reason lies not in the desk
 stops : (t : NamedContext) (e lines : ℕ) (a b : EndState) (d : DeskCount) (ended : Ended) (served : List Exchange) (rest sent unsent : Text)
@@ -100,7 +100,7 @@ module _ (t : NamedContext) (e lines : ℕ) (a b : EndState) where
 -- the expert left
 pub left : (t : NamedContext) (e lines : ℕ) (a b : EndState) (c d d' : DeskCount) (ended : Ended) (reply : SetReply) (n : ℕ) → n ≡ e
     → HasServed t e lines a b c d ended → ended ≢ Spent
-    → d'.entries ≡ d.entries ++ record { event = Leave n; reply = reply } ∷ [] → TakesTurns 1 d.turns d'.turns
+    → d'.entries ≡ d.entries ++ record { event = Leave n; reply = reply } ∷ [] → TakesTurns 1 d.left d'.left
     → HasTalked t e lines a b c d' ended
 left t e lines a b c d d' ended reply n same x unspent added' turn =
     let entries = entries_of x.course.served in
@@ -127,7 +127,7 @@ left t e lines a b c d d' ended reply n same x unspent added' turn =
 -- no turn was left to leave
 pub spent_late : (t : NamedContext) (e lines : ℕ) (a b : EndState) (c d d' : DeskCount) (ended : Ended) → HasServed t e lines a b c d ended
     → ended ≢ Spent → d'.entries ≡ d.entries
-    → (d'.turns ≡ Some 0) × TakesTurns 0 d.turns d'.turns → HasTalked t e lines a b c d' Spent
+    → (d'.left ≡ Some 0) × TakesTurns 0 d.left d'.left → HasTalked t e lines a b c d' Spent
 spent_late t e lines a b c d d' ended x unspent same none =
     let nothing : Enters d d' [] 0 = record { added = same ∙ sym (append-nil d.entries); turns = none.1 } in
     record {
@@ -148,7 +148,7 @@ spent_late t e lines a b c d d' ended x unspent same none =
 pub unremembered : (t : NamedContext) (e lines : ℕ) (a b : EndState) (c d d' : DeskCount) (ended : Ended)
     → HasServed t e lines a b c d ended
     → ended ≢ Spent → d'.entries ≡ d.entries
-    → TakesTurns 1 d.turns d'.turns → HasTalked t e lines a b c d' Memory
+    → TakesTurns 1 d.left d'.left → HasTalked t e lines a b c d' Memory
 unremembered t e lines a b c d d' ended x unspent same turn =
     let nothing : Enters d d' [] 1 = record { added = same ∙ sym (append-nil d.entries); turns = turn } in
     record {
@@ -167,8 +167,8 @@ unremembered t e lines a b c d d' ended x unspent same turn =
 
 -- if turns are not shown, and never ran out, no talk ends because of them
 pub untold : (t : NamedContext) (e lines : ℕ) (a b : EndState) (c d : DeskCount) (ended : Ended) → HasTalked t e lines a b c d ended
-    → (d.turns ≡ Some 0 → ⊥)
-    → HasTalked t e lines a b (record { entries = c.entries; turns = None }) (record { entries = d.entries; turns = None }) ended
+    → (d.left ≡ Some 0 → ⊥)
+    → HasTalked t e lines a b (record { entries = c.entries; left = None }) (record { entries = d.entries; left = None }) ended
 untold t e lines a b c d ended x never = record {
   taken = x.taken;
   made = x.made;
@@ -176,7 +176,7 @@ untold t e lines a b c d ended x never = record {
   sent = x.sent;
   moves = x.moves;
   enters = record { added = x.enters.added; turns = refl };
-  talk = elim x.talk as (λ _. Talk t e lines a b (record { entries = d.entries; turns = None }) x.taken x.made x.turns x.sent ended) [
+  talk = elim x.talk as (λ _. Talk t e lines a b (record { entries = d.entries; left = None }) x.taken x.made x.turns x.sent ended) [
     | inl none ↦ inl none
     | inr served ↦ inr (record {
       course = served.course;
@@ -187,7 +187,7 @@ untold t e lines a b c d ended x never = record {
 }
   where
     kept : (ended : Ended) (served : List Exchange) (rest sent unsent : Text) → EndsTalk t e lines a b d ended served rest sent unsent
-        → EndsTalk t e lines a b (record { entries = d.entries; turns = None }) ended served rest sent unsent
+        → EndsTalk t e lines a b (record { entries = d.entries; left = None }) ended served rest sent unsent
     kept Quit served rest sent unsent h = h
     kept EndOfInput served rest sent unsent h = h
     kept ReadFault served rest sent unsent h = h

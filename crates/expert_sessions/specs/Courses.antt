@@ -11,7 +11,7 @@ use Rattle.expert_wire.specs.Texts.{line_end}
 use Rattle.expert_wire.specs.Greetings.{greeting}
 use Rattle.expert_sessions.specs.Lines.{HasNoFeed, BeginsWithEvent, Exchange, IsExchange, IsQuit, IsNotQuit, lines_of, replies_of}
 use Rattle.expert_sessions.specs.Lines.{entries_of, turns_of, said_line}
-use Rattle.expert_sessions.specs.Talks.{Course, GoesOn, IsPartOfLine, IsTooLong, Stops}
+use Rattle.expert_sessions.specs.Talks.{LinesServed, GoesOn, IsPartOfLine, IsTooLong, Stops}
 use Rattle.expert_sessions.specs.Moves.{EndState, Moves, IsQuiet, DeskCount, Enters}
 use Rattle.expert_sessions.specs.declared.said.Said.{Said}
 use Rattle.expert_sessions.specs.declared.said.Said.TheVariants.{Replied, NoMemory}
@@ -79,7 +79,7 @@ HaltsAt n e a b d EndOfInput more rest unsent = (more ≡ []) × (unsent ≡ [])
 HaltsAt n e a b d ReadFault more rest unsent = (more ≡ []) × (unsent ≡ []) × Rose a.read_faults b.read_faults × IsPartOfLine rest
     × (b.write_faults ≡ a.write_faults)
 HaltsAt n e a b d LongLine more rest unsent = (more ≡ []) × (unsent ≡ []) × IsTooLong rest × IsQuiet a b
-HaltsAt n e a b d Spent more rest unsent = (more ≡ []) × (unsent ≡ []) × (d.turns ≡ Some 0) × BeginsWithEvent n e rest × IsQuiet a b
+HaltsAt n e a b d Spent more rest unsent = (more ≡ []) × (unsent ≡ []) × (d.left ≡ Some 0) × BeginsWithEvent n e rest × IsQuiet a b
 HaltsAt n e a b d ended more rest unsent = ⊥
 
 -- no line is served after this one
@@ -112,7 +112,7 @@ pub record Goes (t : NamedContext) (e : ℕ) (a b : EndState) (c d : DeskCount) 
 
 -- why no line is served any more: no turn is left, or a reason that lies not in the desk
 abbrev pub Closes : (t : NamedContext) (e lines : ℕ) → EndState → EndState → DeskCount → Ended → List Exchange → Text → Text → Text → Type 0
-Closes t e lines a b d Spent served rest sent unsent = (d.turns ≡ Some 0) × GoesOn t.context.width lines served
+Closes t e lines a b d Spent served rest sent unsent = (d.left ≡ Some 0) × GoesOn t.context.width lines served
     × BeginsWithEvent t.context.width e rest × (unsent ≡ []) × IsQuiet a b
 Closes t e lines a b d ended served rest sent unsent = Stops t e lines a b ended served rest sent unsent
 
@@ -121,6 +121,6 @@ pub record HasServed (t : NamedContext) (e lines : ℕ) (a b : EndState) (c d : 
   pub taken : Text
   pub sent : Text
   pub moves : Moves a b taken sent
-  pub course : Course t e lines taken sent (Rose a.write_faults b.write_faults)
+  pub course : LinesServed t e lines taken sent (Rose a.write_faults b.write_faults)
   pub enters : Enters c d (entries_of course.served) (turns_of course.served)
   pub closes : Closes t e lines a b d ended course.served course.rest sent course.unsent

@@ -32,10 +32,10 @@ pub record IsQuiet (a b : EndState) : Type 0 where
 -- a desk: its entries, and the turns that are left, if turns are counted
 pub record DeskCount : Type 0 where
   pub entries : List SetEntry
-  pub turns : Option ℕ
+  pub left : Option ℕ
 
 abbrev pub desk_count_of : DeskState → DeskCount
-desk_count_of desk = record { entries = desk.entries; turns = desk.left }
+desk_count_of desk = record { entries = desk.entries; left = desk.left }
 
 -- at most k turns were taken, if turns are counted
 abbrev pub TakesTurnsAtMost : ℕ → Option ℕ → Option ℕ → Type 0
@@ -50,4 +50,4 @@ TakesTurns k (Some turns) new = (left : ℕ) × (new ≡ Some left) × (turns �
 -- these entries were made, in k turns
 pub record Enters (c d : DeskCount) (made : List SetEntry) (k : ℕ) : Type 0 where
   pub added : d.entries ≡ c.entries ++ made
-  pub turns : TakesTurns k c.turns d.turns
+  pub turns : TakesTurns k c.left d.left

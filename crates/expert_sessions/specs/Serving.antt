@@ -22,7 +22,7 @@ pub record Suits (gate : Lock Opening) (t : NamedContext) (lines : ℕ) : Type 0
 
 -- a desk of which only the entries are shown
 abbrev pub entered : List SetEntry → DeskCount
-entered entries = record { entries = entries; turns = None }
+entered entries = record { entries = entries; left = None }
 
 -- over ends that show what is left and what is held, how often they were read, if they count that, and their counts of faults
 module _ {E : Type 0} (left held : E → Option Text) (reads : E → Option ℕ) (read_faults write_faults : E → ℕ) (t : NamedContext)

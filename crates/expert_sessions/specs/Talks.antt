@@ -19,7 +19,7 @@ use Rattle.expert_sessions.specs.declared.ended.Ended.TheVariants.{Quit, EndOfIn
 
 -- Whole lines at the front of what was taken were served, one answer each, and `quit` only as the last of them. What was sent
 -- is a front of the greeting and all answers, and all of it if no write failed
-pub record Course (t : NamedContext) (e lines : ℕ) (taken sent : Text) (write_failed : Type 0) : Type 0 where
+pub record LinesServed (t : NamedContext) (e lines : ℕ) (taken sent : Text) (write_failed : Type 0) : Type 0 where
   pub served : List Exchange
   pub rest : Text
   pub unsent : Text
@@ -86,7 +86,7 @@ module _ (t : NamedContext) (e lines : ℕ) (a b : EndState) where
 
   -- the ending: if memory ran out in the leave, the session stopped for another reason
   abbrev pub EndsTalk : DeskCount → Ended → List Exchange → Text → Text → Text → Type 0
-  EndsTalk d Spent served rest sent unsent = (d.turns ≡ Some 0) × Pauses served rest sent unsent
+  EndsTalk d Spent served rest sent unsent = (d.left ≡ Some 0) × Pauses served rest sent unsent
   EndsTalk d Memory served rest sent unsent = (reason : Ended) × Stops reason served rest sent unsent
   EndsTalk d ended served rest sent unsent = Stops ended served rest sent unsent
 
@@ -104,7 +104,7 @@ Makes e ended entries k made turns = AndLeaves e entries made × (turns ≡ k + 
 -- a session that had room for a line
 pub record IsServed (t : NamedContext) (e lines : ℕ) (a b : EndState) (d : DeskCount) (taken : Text) (made : List SetEntry) (turns : ℕ)
     (sent : Text) (ended : Ended) : Type 0 where
-  pub course : Course t e lines taken sent (Rose a.write_faults b.write_faults)
+  pub course : LinesServed t e lines taken sent (Rose a.write_faults b.write_faults)
   pub entries : Makes e ended (entries_of course.served) (turns_of course.served) made turns
   pub ending : EndsTalk t e lines a b d ended course.served course.rest sent course.unsent
 

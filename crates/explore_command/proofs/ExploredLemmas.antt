@@ -32,7 +32,7 @@ use Rattle.oracle_expert.proofs.DrawLemmas.{recorded_between, runs_on}
 use Rattle.fca_model.specs.declared.Memory.{Memory}
 use Rattle.expert_panel.specs.declared.explored.Explored.{Explored}
 use Rattle.expert_panel.specs.Explorations.{IsOraclesShare, EachNumbered, HasAgreed}
-use Rattle.explore_state.specs.History.{Opening, History, opening_state, state_of, open_of}
+use Rattle.explore_state.specs.History.{Opening, ExploreModel, opening_state, state_of, open_of}
 use Rattle.basis_report.specs.Comments.{comments as comments_of, are_lines, AreComments}
 use Rattle.expert_scripts.specs.Transcripts.{SettingsCanBeWritten, transcript}
 use Rattle.basis_report.specs.Explorations.{recorded_section, accepted_section, open_section, basis_lines, state_of_text, explore_text}
@@ -42,7 +42,7 @@ use Rattle.basis_report.proofs.OrderLemmas.{finished_text}
 use Rattle.command_io.specs.Endings.{Output}
 use Rattle.command_io.specs.Readings.{Reading, MayRead}
 use Rattle.command_io.specs.Readings.Reading.{Read}
-use Rattle.command_io.specs.Explorations.{opening_of, open_at}
+use Rattle.command_io.specs.Explorations.{opening_of, last_open}
 use Rattle.command_io.proofs.CourseLemmas.{legal-course}
 use Rattle.explore_command.specs.Starts.{ExploreStart, MayOpen}
 use Rattle.explore_command.specs.Explored.{IsShare, dropped_in, exploring_record, explored_text, recorded_text, basis_alone, IsExploredText}
@@ -112,14 +112,14 @@ module _ (T : NamedContext) (G : Settings) (H : List SetEntry) (respecting : row
       }
 
 -- what its settings are can be told
-pub writable-explored : (p : ExploreStart) (explore : History) (oracles : List Recall) (spent : Bool) → HasExplored p explore oracles spent
+pub writable-explored : (p : ExploreStart) (explore : ExploreModel) (oracles : List Recall) (spent : Bool) → HasExplored p explore oracles spent
     → SettingsCanBeWritten explore.opening.table.context.width explore.opening.settings
 writable-explored p explore oracles spent explored =
     let Tells : Opening → Type 0 = λ o. SettingsCanBeWritten o.table.context.width o.settings in
     subst Tells (sym explored.opening) explored.may.writable
 
 -- there are as many oracles as experts
-pub length-explored : (p : ExploreStart) (explore : History) (oracles : List Recall) (spent : Bool) → HasExplored p explore oracles spent
+pub length-explored : (p : ExploreStart) (explore : ExploreModel) (oracles : List Recall) (spent : Bool) → HasExplored p explore oracles spent
     → length oracles ≡ explore.opening.experts
 length-explored p explore oracles spent explored =
     sym (length-map oracles (λ (oracle : Recall). oracle.table)) ∙ ap length explored.tables
@@ -162,7 +162,7 @@ explored-oracles p o n (Ok r) may opened count opening legal tables shares other
     }
 
 -- conflicts are lines that change nothing of what the text spells
-pub spelled-conflicts : (explore : History) (conflicts text : Text) → SettingsCanBeWritten explore.opening.table.context.width explore.opening.settings
+pub spelled-conflicts : (explore : ExploreModel) (conflicts text : Text) → SettingsCanBeWritten explore.opening.table.context.width explore.opening.settings
     → ((lines : List Text) → are_lines lines ≡ true → SettingsCanBeWritten explore.opening.table.context.width explore.opening.settings
     → SpellsBefore explore.opening.table explore.opening.settings explore.journal lines)
     → AreComments conflicts → text ≡ explore_text explore.opening.table explore.opening.settings explore.journal ++ conflicts
@@ -228,7 +228,7 @@ agreed_text T G H C conflicts respected legal done same =
     (open_section T.attributes [])
     (basis_lines T.attributes (basis_known G.known C)) conflicts
 
-explored_text-explored : (p : ExploreStart) (explore : History) (oracles : List Recall) (spent : Bool) → HasExplored p explore oracles spent
+explored_text-explored : (p : ExploreStart) (explore : ExploreModel) (oracles : List Recall) (spent : Bool) → HasExplored p explore oracles spent
     → text_with_conflicts explore oracles ≡ explored_text p explore.journal
 explored_text-explored p explore oracles spent explored =
     let H = explore.journal in
@@ -239,7 +239,7 @@ explored_text-explored p explore oracles spent explored =
     ap (λ o. text o (map with_conflicts oracles)) explored.opening
     ∙ ap (text (opening_of p.table (length p.tables) p.settings)) (dropped ∙ ap (dropped_in H 1) explored.tables)
 
-agreed-explored : (p : ExploreStart) (explore : History) (oracles : List Recall) (spent : Bool) (text : Text)
+agreed-explored : (p : ExploreStart) (explore : ExploreModel) (oracles : List Recall) (spent : Bool) (text : Text)
     → HasExplored p explore oracles spent → text ≡ text_with_conflicts explore oracles
     → (C : Context) → All (λ (D : NamedContext). HasIntentsOf C D.context) p.tables → are_intents C p.table.context.rows ≡ true
     → rows_respect p.settings.known C ≡ true → spent ≡ false
@@ -250,7 +250,7 @@ agreed-explored p explore oracles spent text explored whole C same part respecte
     let agreed = explored.agreed C same part respected in
     let B = basis_known p.settings.known C in
     let legal : IsLegal (opening_state o) H = subst (λ (x : Opening). IsLegal (opening_state x) H) explored.opening explored.legal in
-    let done : open_at (exploring_record p H) ≡ [] = subst
+    let done : last_open (exploring_record p H) ≡ [] = subst
     (λ (x : Opening). open_of (record { opening = x; journal = H; spare = 0 }) ≡ []) explored.opening (explored.finished unspent) in
     let same_basis : basis_known p.settings.known (state_of_text p.table p.settings H).context ≡ B =
     subst (λ (x : Opening). basis_known x.settings.known (state_after (opening_state x) (events_of H)).context
@@ -263,7 +263,7 @@ agreed-explored p explore oracles spent text explored whole C same part respecte
     whole ∙ ap (text_of explore.opening) none ∙ ap (λ x. text_of x (conflicts_section p.table.attributes B [])) explored.opening
     ∙ agreed_text p.table p.settings H C (conflicts_section p.table.attributes B []) explored.may.respected legal done same_basis
 
-IsExploredText-explored : (p : ExploreStart) (explore : History) (oracles : List Recall) (spent : Bool) (text : Text)
+IsExploredText-explored : (p : ExploreStart) (explore : ExploreModel) (oracles : List Recall) (spent : Bool) (text : Text)
     → is_expert (length p.tables) ≡ true
     → HasExplored p explore oracles spent → text ≡ text_with_conflicts explore oracles
     → Spells explore.opening.table explore.opening.settings explore.journal text → IsExploredText p text spent
@@ -295,7 +295,7 @@ IsExploredText-explored p explore oracles spent text expert explored whole spell
 -- ---- the output
 
 -- an output that tells of the exploration
-pub MayExplore-explored : (p : ExploreStart) (explore : History) (oracles : List Recall) (spent : Bool) (output : Result Output Memory)
+pub MayExplore-explored : (p : ExploreStart) (explore : ExploreModel) (oracles : List Recall) (spent : Bool) (output : Result Output Memory)
     → is_expert (length p.tables) ≡ true
     → HasExplored p explore oracles spent
     → IfOk output (λ output. output.text ≡ text_with_conflicts explore oracles)

@@ -8,7 +8,7 @@ use Rattle.fca_model.specs.Tables.{NamedContext}
 use Rattle.fca_model.specs.Pseudo.{intents, basis, basis_known}
 use Rattle.fca_model.specs.Exploration.{Settings, plain}
 use Rattle.context_table.specs.Generated.{made_table}
-use Rattle.explore_state.specs.History.{History, state_of, open_of}
+use Rattle.explore_state.specs.History.{ExploreModel, state_of, open_of}
 use Rattle.explore_state.specs.Basis.{IsBasisBeside}
 use Rattle.oracle_expert.specs.Intents.{are_intents}
 use Rattle.oracle_expert.specs.Oracles.{Recall}
@@ -28,7 +28,7 @@ pub are_intents-none : (s m d : ℕ) (C : Context)
 unfolding made_table
 are_intents-none s m d C = refl
 
-pub length-agreed : (C : Context) (explore : History) (accepted : List Rule) (oracles : List Recall) (spent : Bool)
+pub length-agreed : (C : Context) (explore : ExploreModel) (accepted : List Rule) (oracles : List Recall) (spent : Bool)
     → explore.opening.settings ≡ plain
     → (open_of explore ≡ [] → IsBasisBeside explore.opening.settings.known (state_of explore).context accepted)
     → (spent ≡ false → open_of explore ≡ [])

@@ -7,7 +7,7 @@ use Rattle.fca_model.specs.Implications.{Rule}
 use Rattle.fca_model.specs.Pseudo.{basis_known}
 use Rattle.fca_model.specs.Invariant.{rows_respect}
 use Rattle.fca_model.specs.Exploration.{SetEntry, rules_of, own, IsLegal}
-use Rattle.explore_state.specs.History.{History, opening_state, state_of, open_of}
+use Rattle.explore_state.specs.History.{ExploreModel, opening_state, state_of, open_of}
 use Rattle.fca_model.specs.declared.TheConstants.{MAX_SURVEYED, MAX_TURNS}
 use Rattle.fca_model.specs.declared.Event.TheVariants.{Draw}
 use Rattle.oracle_expert.specs.Counts.{answers_recorded_in, dropped}
@@ -22,7 +22,7 @@ use Rattle.command_io.specs.Endings.{Output}
 use Rattle.command_io.specs.Readings.{Reading, MayRead}
 use Rattle.command_io.specs.declared.output.Ending.{Ending}
 use Rattle.command_io.specs.declared.output.Ending.TheVariants.{Finished, Spent}
-use Rattle.command_io.specs.Explorations.{Exploration, opening_of, last_state, open_at, IsExplored}
+use Rattle.command_io.specs.Explorations.{Exploration, opening_of, last_state, last_open, IsExplored}
 use Rattle.explore_command.specs.Starts.{ExploreStart, MayOpen}
 
 -- Of the history H, the entries of expert e are what is due for an oracle of D. Its last reply is Done; or it is not, and it has taken all
@@ -73,7 +73,7 @@ pub record IsExploredText (start : ExploreStart) (text : Text) (spent : Bool) : 
   pub shares : EachNumbered (IsShare history) start.tables
   pub others : (e : ℕ) → (e ≡ 0) ⊎ (length start.tables < e) → own history e ≡ []
   pub unfinished : (spent ≡ true) ↔ ((e : ℕ) × (1 ≤ e) × (e ≤ length start.tables) × (ends_done (own history e) ≡ false))
-  pub finished : spent ≡ false → open_at (exploring_record start history) ≡ []
+  pub finished : spent ≡ false → last_open (exploring_record start history) ≡ []
   pub unspent : start.table.context.width ≤ MAX_SURVEYED → spent ≡ false
   pub agreed : (C : Context) → All (λ D. HasIntentsOf C D.context) start.tables → are_intents C start.table.context.rows ≡ true
       → rows_respect start.settings.known C ≡ true → spent ≡ false
@@ -86,12 +86,12 @@ abbrev pub with_conflicts : Recall → NamedContext × Conflicts
 with_conflicts oracle = (oracle.table, oracle.conflicts)
 
 -- the text of an exploration, and the conflicts of its oracles
-abbrev pub text_with_conflicts : History → List Recall → Text
+abbrev pub text_with_conflicts : ExploreModel → List Recall → Text
 text_with_conflicts explore oracles = explore_text explore.opening.table explore.opening.settings explore.journal
     ++ conflicts_text explore.opening.table.attributes (rules_of (state_of explore)) (map with_conflicts oracles)
 
 -- an exploration of the start's table by oracles of the experts' tables, as it ended
-pub record HasExplored (start : ExploreStart) (explore : History) (oracles : List Recall) (spent : Bool) : Type 0 where
+pub record HasExplored (start : ExploreStart) (explore : ExploreModel) (oracles : List Recall) (spent : Bool) : Type 0 where
   pub may : MayOpen start.table start.settings
   pub opening : explore.opening ≡ opening_of start.table (length start.tables) start.settings
   pub legal : IsLegal (opening_state explore.opening) explore.journal

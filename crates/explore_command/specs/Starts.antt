@@ -67,35 +67,35 @@ if_agreeing table D = cond (same_names D.attributes table.attributes) (Read D) R
 
 -- the table of an expert in the file
 abbrev pub expert_read : NamedContext → Text → (Text → Told) → Reading NamedContext
-expert_read table file files = then (table_read file (files file)) (if_agreeing table)
+expert_read table file tells = then (table_read file (tells file)) (if_agreeing table)
 
 -- the tables of the experts in the files, in their order
 abbrev pub experts_read : NamedContext → List Text → (Text → Told) → Reading (List NamedContext)
-experts_read table [] files = Read []
-experts_read table (file ∷ rest) files =
-    then (expert_read table file files) (λ D. then (experts_read table rest files) (λ experts. Read (D ∷ experts)))
+experts_read table [] tells = Read []
+experts_read table (file ∷ rest) tells =
+    then (expert_read table file tells) (λ D. then (experts_read table rest tells) (λ experts. Read (D ∷ experts)))
 
 -- the table in the first file, what is known of it, and the tables of the experts in the others
 abbrev pub explore_read : Text → Option Text → Bool → List Text → (Text → Told) → Reading ExploreStart
-explore_read file known wants_names experts files =
-    then (start_read file known files) (λ start.
-    then (experts_read start.table experts files) (λ tables.
-    Read (record { table = start.table; settings = settings_by start.known wants_names experts; tables = tables })))
+explore_read file known wants_names files tells =
+    then (start_read file known tells) (λ start.
+    then (experts_read start.table files tells) (λ tables.
+    Read (record { table = start.table; settings = settings_by start.known wants_names files; tables = tables })))
 
 -- ---- why they are not read
 
 -- the stop for the file of an expert, or, if its table was read, that it has other attributes
 abbrev pub IsExpertStop : NamedContext → Text → (Text → Told) → (Text → Type 0) → Origin → Stop → Type 0
-IsExpertStop table file files rises origin stop = IsFileStop file (files file) (rises file) origin stop
-    ⊎ ((stop ≡ OtherAttributes origin) × (D : NamedContext) × MayRead (table_read file (files file)) D × (if_agreeing table D ≡ Refused))
+IsExpertStop table file tells rises origin stop = IsFileStop file (tells file) (rises file) origin stop
+    ⊎ ((stop ≡ OtherAttributes origin) × (D : NamedContext) × MayRead (table_read file (tells file)) D × (if_agreeing table D ≡ Refused))
 
 -- The stop for the files of experts, from this place on: for the first of them, or, if that was read, for a later one; or memory ran out
 abbrev pub IsExpertsStop : NamedContext → ℕ → List Text → (Text → Told) → (Text → Type 0) → Stop → Type 0
-IsExpertsStop table place [] files rises stop = stop ≡ Memory
-IsExpertsStop table place (file ∷ later) files rises stop = IsExpertStop table file files rises (Later place) stop
-    ⊎ ((D : NamedContext) × MayRead (expert_read table file files) D × IsExpertsStop table (place + 1) later files rises stop)
+IsExpertsStop table place [] tells rises stop = stop ≡ Memory
+IsExpertsStop table place (file ∷ later) tells rises stop = IsExpertStop table file tells rises (Later place) stop
+    ⊎ ((D : NamedContext) × MayRead (expert_read table file tells) D × IsExpertsStop table (place + 1) later tells rises stop)
 
 -- the stop for the first file or the known file, or, if both were read, for the files of the experts
 abbrev pub IsExploreStop : Text → Option Text → List Text → (Text → Told) → (Text → Type 0) → Stop → Type 0
-IsExploreStop file known experts files rises stop = IsStartStop file known files rises stop
-    ⊎ ((start : Start) × MayRead (start_read file known files) start × IsExpertsStop start.table 0 experts files rises stop)
+IsExploreStop file known files tells rises stop = IsStartStop file known tells rises stop
+    ⊎ ((start : Start) × MayRead (start_read file known tells) start × IsExpertsStop start.table 0 files tells rises stop)

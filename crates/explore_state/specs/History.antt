@@ -17,17 +17,17 @@ abbrev pub opening_state : Opening → State
 opening_state o = opening o.table.context o.table.objects o.settings
 
 -- the opening, the journal, and how many more entries the journal can take without memory
-pub record History : Type 0 where
+pub record ExploreModel : Type 0 where
   pub opening : Opening
   pub journal : List SetEntry
   pub spare : ℕ
 
 -- the state after the events of the journal
-abbrev pub state_of : History → State
+abbrev pub state_of : ExploreModel → State
 state_of h = state_after (opening_state h.opening) (events_of h.journal)
 
 -- the questions that are open after them, beside what was known at the opening
-abbrev pub open_of : History → List Rule
+abbrev pub open_of : ExploreModel → List Rule
 open_of h = open_questions h.opening.settings.known (state_of h).context (state_of h).accepted
 
 -- the event is of one of the experts, and a row has the width of the table
@@ -37,13 +37,13 @@ pub record Admits (o : Opening) (event : SetEvent) : Type 0 where
   pub wide : has_width o.table.context.width event ≡ true
 
 -- the event was replied to, which put one entry on the journal and moved the state by one step
-pub record IsStep (old new : History) (event : SetEvent) (answer : SetReply) : Type 0 where
+pub record IsStep (old new : ExploreModel) (event : SetEvent) (answer : SetReply) : Type 0 where
   pub reply : answer ≡ reply_to (state_of old) event
   pub journal : new.journal ≡ old.journal ++ record { event = event; reply = answer } ∷ []
   pub state : state_of new ≡ next (state_of old) event
   pub opening : new.opening ≡ old.opening
 
 -- the event changed nothing but the room on the journal
-pub record IsSame (old new : History) : Type 0 where
+pub record IsSame (old new : ExploreModel) : Type 0 where
   pub journal : new.journal ≡ old.journal
   pub opening : new.opening ≡ old.opening

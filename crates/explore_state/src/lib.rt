@@ -68,11 +68,11 @@ impl Model for Explore {
     ghost use Rattle.std.specs.Prelude.{◌≡◌, ◌≤◌, ◌-◌, true, vec_len, vec_capacity};
     ghost use Rattle.fca_model.specs.declared.TheConstants.{MAX_EXPERTS};
     ghost use Rattle.fca_model.specs.Exploration.{is_expert};
-    ghost use Rattle.explore_state.specs.History.{History};
+    ghost use Rattle.explore_state.specs.History.{ExploreModel};
     ghost use Rattle.explore_state.specs.Kept.{IsKept};
     ghost use Rattle.exploration_terms.specs.Settings.{settings_of};
 
-    ghost Value = { History };
+    ghost Value = { ExploreModel };
 
     ghost view = { λ a. record {
       opening = record { table = a.table; experts = a.experts; settings = settings_of a.settings };

@@ -212,11 +212,11 @@ may_end_open (Serve file known experts holders listen) = true
 may_end_open _ = false
 
 -- whether the command waits for nobody
-abbrev pub is_plain : Command → Bool
-is_plain (Explore file known names experts) = false
-is_plain (Serve file known experts holders listen) = false
-is_plain (Survey seed objects attributes density experts) = false
-is_plain _ = true
+abbrev pub waits_for_nobody : Command → Bool
+waits_for_nobody (Explore file known names experts) = false
+waits_for_nobody (Serve file known experts holders listen) = false
+waits_for_nobody (Survey seed objects attributes density experts) = false
+waits_for_nobody _ = true
 
 -- the limits of a command's values: 1 to 64 experts and holders, and those of a recipe
 abbrev pub IsWithinLimits : Command → Type 0

@@ -9,7 +9,7 @@ ghost use Rattle.fca_command.specs.Commands.{concepts_command, lattice_command, 
 ghost use Rattle.fca_command.specs.Commands.{convert_command, form_of, reduce_command, arrows_command, scale_command, make_command};
 ghost use Rattle.fca_command.specs.Commands.{survey_command};
 ghost use Rattle.fca_command.specs.Commands.{replay_command, explore_command, serve_command, report_file, files_of, first_file_of};
-ghost use Rattle.fca_command.specs.Commands.{is_plain, IsWithinLimits};
+ghost use Rattle.fca_command.specs.Commands.{waits_for_nobody, IsWithinLimits};
 
 use crate::experts::{expert_count, experts_of};
 use crate::flags::{copy_word, serving_of, split_known, split_names};
@@ -129,8 +129,8 @@ impl Command {
     }
 
     /// Whether the command waits for nobody.
-    pub fn is_plain(&self) -> bool
-        ensures { result ≡ is_plain self.now }
+    pub fn waits_for_nobody(&self) -> bool
+        ensures { result ≡ waits_for_nobody self.now }
     {
         match self {
             Command::Explore { .. } | Command::Serve { .. } | Command::Survey { .. } => false,

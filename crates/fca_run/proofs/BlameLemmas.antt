@@ -12,7 +12,7 @@ use Rattle.fca_command.specs.declared.command.Command.TheVariants.{Scale, Replay
 use Rattle.command_io.specs.Readings.{Reading, MayRefuse, Rises, SomeRose}
 use Rattle.command_io.specs.Readings.Reading.{Untold, Missing, Refused, Read}
 use Rattle.command_io.specs.Causes.{IsFileStop, IsValuesStop, IsPlanStop, IsScriptStop}
-use Rattle.command_io.specs.Known.{IsKnownSaidStop, IsKnownStop, IsStartStop}
+use Rattle.command_io.specs.Known.{IsImplicationsStop, IsKnownStop, IsStartStop}
 use Rattle.command_io.specs.Endings.{Output, IsRefusal}
 use Rattle.command_io.specs.declared.stop.Origin.{Origin}
 use Rattle.command_io.specs.declared.stop.Origin.TheVariants.{File, Later, Input}
@@ -52,11 +52,11 @@ module _ (rose R L : Type 0) (more : rose → R) where
   plan-blamed t told origin (Fault at) is = more is.1
   plan-blamed t told origin _ is = tt
 
-  known_said-blamed : (n : ℕ) (told : Told) (s : Stop) → IsKnownSaidStop n told rose s → IsBlamed R L s
-  known_said-blamed n told NoCommand is = absurd is
-  known_said-blamed n told Listener is = absurd is
-  known_said-blamed n told (Fault at) is = more is.1
-  known_said-blamed n told _ is = tt
+  implications-blamed : (n : ℕ) (told : Told) (s : Stop) → IsImplicationsStop n told rose s → IsBlamed R L s
+  implications-blamed n told NoCommand is = absurd is
+  implications-blamed n told Listener is = absurd is
+  implications-blamed n told (Fault at) is = more is.1
+  implications-blamed n told _ is = tt
 
   script-blamed : (n : ℕ) (input : Option Text) (s : Stop) → IsScriptStop n input rose s → IsBlamed R L s
   script-blamed n input NoCommand is = absurd is
@@ -83,7 +83,7 @@ module _ (counts counts' : Text → ℕ) (R L : Type 0) where
       → IsKnownStop known table files (Rises counts counts') s → IsBlamed R L s
   known-blamed None table files s more memory = named R L s Memory tt memory
   known-blamed (Some known) table files s more (inl is) =
-      known_said-blamed (Rises counts counts' known) R L (λ rose. more (inl rose)) table.context.width (files known) s is
+      implications-blamed (Rises counts counts' known) R L (λ rose. more (inl rose)) table.context.width (files known) s is
   known-blamed (Some known) table files s more (inr broken) = named R L s (RowBreaks File broken.2.0.0 broken.2.0.1) tt broken.2.2
 
   start-blamed : (file : Text) (known : Option Text) (files : Text → Told) (s : Stop)

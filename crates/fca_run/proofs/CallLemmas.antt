@@ -11,7 +11,7 @@ use Rattle.fca_model.proofs.ListLemmas.{IfErr-any}
 use Rattle.fca_io.specs.Faults.{Rose, RoseAtMost}
 use Rattle.fca_io.specs.Links.{Ends, MayListenAt}
 use Rattle.fca_io.specs.Shelves.{Told}
-use Rattle.fca_command.specs.Commands.{report_file, files_of, first_file_of, reads_input, may_end_open, is_plain}
+use Rattle.fca_command.specs.Commands.{report_file, files_of, first_file_of, reads_input, may_end_open, waits_for_nobody}
 use Rattle.fca_command.specs.declared.command.Command.{Command}
 use Rattle.fca_command.specs.declared.command.Command.TheVariants.{Concepts, Lattice, Basis, Direct, Follows, Convert, Reduce, Arrows}
 use Rattle.fca_command.specs.declared.command.Command.TheVariants.{Scale, Replay, Explore, Serve, Make, Survey}
@@ -25,7 +25,7 @@ use Rattle.command_io.specs.Endings.Outcome.{Written, CutOff, Stopped}
 use Rattle.command_io.specs.ErrLines.{stop_line, stop_origin, file_from, line_of}
 use Rattle.command_io.specs.declared.stop.Origin.{Origin}
 use Rattle.command_io.specs.declared.stop.Origin.TheVariants.{File, Known, Later, Input}
-use Rattle.command_io.specs.Explorations.{Exploration, open_at}
+use Rattle.command_io.specs.Explorations.{Exploration, last_open}
 use Rattle.command_io.specs.Streams.{Moment, GainsLine, HasConcluded}
 use Rattle.command_io.specs.declared.output.Ending.{Ending}
 use Rattle.command_io.specs.declared.output.Ending.TheVariants.{Finished, Open, Spent}
@@ -41,7 +41,7 @@ use Rattle.serve_command.specs.Openings.{opening_by}
 use Rattle.serve_command.specs.Served.{serving_record, MayServe, IsServeStop, GaveAllBack}
 use Rattle.serve_command.proofs.AcceptedLemmas.{TookAndGave-none}
 use Rattle.fca_run.specs.Causes.{command_file_at_fault}
-use Rattle.fca_run.specs.Outputs.{output_read, survey_output}
+use Rattle.fca_run.specs.Outputs.{command_output, survey_output}
 use Rattle.fca_run.specs.Calls.{ShelfMoment, LinkMoment, Sides, Outside, outside, unlinked, no_input, no_sides, MayEndWith, read_by}
 use Rattle.fca_run.specs.Calls.{IsGiven, IsBlamed, FaultRose, LinkFaultRose, IsQuiet, IsCommandStop, HasGivenBack, MayListen, ComesTo}
 use Rattle.fca_run.specs.Calls.{CallComesTo}
@@ -90,18 +90,18 @@ pub replay-ends : (file : Text) (known : Option Text) (reading : Reading Explora
     → MayEndWith (Replay file known) output.ending
 replay-ends file known reading output replay =
     subst (MayEndWith (Replay file known)) (sym (ap (λ (o : Output). o.ending) replay.whole))
-    (questions-end (Replay file known) (open_at replay.made) refl)
+    (questions-end (Replay file known) (last_open replay.made) refl)
 
 -- ---- explorations by oracles
 
-module _ {H S D E : Type 0} (talk : Sides E) (s s' : ShelfMoment H) (input : Moment S) (link : LinkMoment D E) where
+module _ {H S D E : Type 0} (end_sides : Sides E) (s s' : ShelfMoment H) (input : Moment S) (link : LinkMoment D E) where
   pub explore-comes : (file : Text) (known : Option Text) (names : Bool) (experts : List Text) (output : Result Output Stop)
       → IfOk output (MayExplore (explore_read file known names experts s.tells))
       → IfErr output (λ stop. (IsRefusal stop → MayRefuse (explore_read file known names experts s.tells)))
       → IfErr output (IsExploreStop file known experts s.tells (Rises s.faults s'.faults))
       → UnlessFault output (SameCounts s.faults s'.faults)
       → RoseAtMost s.fetches s'.fetches (length (file ∷ option_to_list known ++ experts))
-      → ComesTo talk (Explore file known names experts) (outside s input link) (outside s' input link) output
+      → ComesTo end_sides (Explore file known names experts) (outside s input link) (outside s' input link) output
   explore-comes file known names experts output answers refuses causes quiet few =
       let command : Command = Explore file known names experts in
       let old : Outside H S D E = outside s input link in
@@ -143,22 +143,22 @@ module _ {H S D E : Type 0} (talk : Sides E) (s s' : ShelfMoment H) (input : Mom
 
 -- ---- sessions of experts
 
-module _ {E : Type 0} (talk : Sides E) where
+module _ {E : Type 0} (end_sides : Sides E) where
   serve-ends : (file : Text) (known : Option Text) (listen : Text) (reading : Reading Start) (experts holders : ℕ)
       (old new : Option (Ends E)) (output : Output)
-      → MayServe talk.left talk.held talk.reads talk.read_faults talk.write_faults reading experts holders old new output
+      → MayServe end_sides.left end_sides.held end_sides.reads end_sides.read_faults end_sides.write_faults reading experts holders old new output
       → MayEndWith (Serve file known experts holders listen) output.ending
   serve-ends file known listen reading experts holders old new output serve =
       let command : Command = Serve file known experts holders listen in
       let is = serve.2.is in
       subst (MayEndWith command) (sym is.ending) (questions-end command
-      (open_at (serving_record (opening_by experts holders serve.0) is.history)) refl)
+      (last_open (serving_record (opening_by experts holders serve.0) is.history)) refl)
 
   serve-back : (reading : Reading Start) (experts holders : ℕ) (old new : Option (Ends E)) (output : Result Output Stop)
-      → IfOk output (MayServe talk.left talk.held talk.reads talk.read_faults talk.write_faults reading experts holders old new)
-      → IfErr output (λ stop. GaveAllBack talk.left talk.held talk.reads talk.read_faults talk.write_faults experts old new
+      → IfOk output (MayServe end_sides.left end_sides.held end_sides.reads end_sides.read_faults end_sides.write_faults reading experts holders old new)
+      → IfErr output (λ stop. GaveAllBack end_sides.left end_sides.held end_sides.reads end_sides.read_faults end_sides.write_faults experts old new
       (stop ≡ Listener))
-      → GaveAllBack talk.left talk.held talk.reads talk.read_faults talk.write_faults experts old new (output ≡ Err Listener)
+      → GaveAllBack end_sides.left end_sides.held end_sides.reads end_sides.read_faults end_sides.write_faults experts old new (output ≡ Err Listener)
   serve-back reading experts holders old new (Ok output) serve back =
       let is = serve.2 in
       let many = is.count in
@@ -179,22 +179,22 @@ module _ {E : Type 0} (talk : Sides E) where
     fewer = λ failed. (let listener : stop ≡ Listener = cc in back.fewer listener);
   }
 
-module _ {H S D E : Type 0} (talk : Sides E) (s s' : ShelfMoment H) (input : Moment S) (link link' : LinkMoment D E) where
+module _ {H S D E : Type 0} (end_sides : Sides E) (s s' : ShelfMoment H) (input : Moment S) (link link' : LinkMoment D E) where
   pub serve-comes : (file : Text) (known : Option Text) (experts holders : ℕ) (listen : Text) (output : Result Output Stop)
-      → IfOk output (MayServe talk.left talk.held talk.reads talk.read_faults talk.write_faults
+      → IfOk output (MayServe end_sides.left end_sides.held end_sides.reads end_sides.read_faults end_sides.write_faults
       (start_read file known s.tells) experts holders link.ends link'.ends)
       → OnOk output ((link'.listens ≡ true) × MayListenAt link'.listens_at listen)
       → IfErr output (λ stop. (IsRefusal stop → MayRefuse (start_read file known s.tells)))
       → IfErr output (IsServeStop file known s.tells (Rises s.faults s'.faults)
       (Rises link.open_faults link'.open_faults listen ⊎ Rose link.accept_faults link'.accept_faults))
       → IfErr output (λ stop. (IsUnread stop → link' ≡ link))
-      → IfErr output (λ stop. GaveAllBack talk.left talk.held talk.reads talk.read_faults talk.write_faults experts link.ends link'.ends
+      → IfErr output (λ stop. GaveAllBack end_sides.left end_sides.held end_sides.reads end_sides.read_faults end_sides.write_faults experts link.ends link'.ends
       (stop ≡ Listener))
       → UnlessFault output (SameCounts s.faults s'.faults)
       → RoseAtMost s.fetches s'.fetches (length (file ∷ option_to_list known))
       → UnlessListener output (SameCounts link.open_faults link'.open_faults)
       → UnlessListener output (link'.accept_faults ≡ link.accept_faults)
-      → ComesTo talk (Serve file known experts holders listen) (outside s input link) (outside s' input link') output
+      → ComesTo end_sides (Serve file known experts holders listen) (outside s input link) (outside s' input link') output
   serve-comes file known experts holders listen output answers listening refuses causes unread back quiet few quiet_open quiet_accept =
       let command : Command = Serve file known experts holders listen in
       let old : Outside H S D E = outside s input link in
@@ -207,14 +207,14 @@ module _ {H S D E : Type 0} (talk : Sides E) (s s' : ShelfMoment H) (input : Mom
       let blames : IfErr output (IsBlamed (FaultRose command old new) (LinkFaultRose command old new)) =
       IfErr-weaker output (IsCommandStop command old new) (IsBlamed (FaultRose command old new) (LinkFaultRose command old new))
       (λ stop is. stop-blamed command old new stop is) causes in
-      let Serves : Output → Type 0 = MayServe talk.left talk.held talk.reads talk.read_faults talk.write_faults reading experts holders
+      let Serves : Output → Type 0 = MayServe end_sides.left end_sides.held end_sides.reads end_sides.read_faults end_sides.write_faults reading experts holders
       link.ends link'.ends in
       record {
         allowed = answers;
         ending = IfOk-weaker output Serves (λ output. MayEndWith command output.ending)
-            (λ output serve. serve-ends talk file known listen reading experts holders link.ends link'.ends output serve) answers;
+            (λ output serve. serve-ends end_sides file known listen reading experts holders link.ends link'.ends output serve) answers;
         course = IfOk-weaker output Serves (λ output. HasCourse command s.tells input.bytes output.text)
-            (λ output serve. serve-tells talk reading experts holders link.ends link'.ends output serve) answers;
+            (λ output serve. serve-tells end_sides reading experts holders link.ends link'.ends output serve) answers;
         cause = causes;
         refused = refusals;
         counts = record {
@@ -230,15 +230,15 @@ module _ {H S D E : Type 0} (talk : Sides E) (s s' : ShelfMoment H) (input : Mom
         unheard = IfErr-weaker output (λ stop. (IsUnread stop → link' ≡ link))
             (λ stop. (IsUnread stop → link' ≡ link) × (IsOfFile stop → input ≡ input)) (λ stop same. (same, λ _. refl)) unread;
         listens = listening;
-        given_back = serve-back talk reading experts holders link.ends link'.ends output answers back;
+        given_back = serve-back end_sides reading experts holders link.ends link'.ends output answers back;
       }
 
 -- ---- a survey
 
-module _ {H S D E : Type 0} (talk : Sides E) (s : ShelfMoment H) (input : Moment S) (link : LinkMoment D E) where
+module _ {H S D E : Type 0} (end_sides : Sides E) (s : ShelfMoment H) (input : Moment S) (link : LinkMoment D E) where
   pub survey-comes : (r : Recipe) (experts : ℕ) (output : Result Output Stop) → IfOk output (λ output. output ≡ survey_output r)
       → IfErr output (λ stop. stop ≡ Memory)
-      → ComesTo talk (Survey r.seed r.objects r.attributes r.density experts) (outside s input link) (outside s input link) output
+      → ComesTo end_sides (Survey r.seed r.objects r.attributes r.density experts) (outside s input link) (outside s input link) output
   survey-comes r experts output answers causes =
       let command : Command = Survey r.seed r.objects r.attributes r.density experts in
       let old : Outside H S D E = outside s input link in
@@ -268,12 +268,12 @@ module _ {H S D E : Type 0} (talk : Sides E) (s : ShelfMoment H) (input : Moment
 
 -- ---- an input that is not read
 
-module _ {H S D E : Type 0} (talk : Sides E) (s s' : ShelfMoment H) (input : Moment S) (link link' : LinkMoment D E)
+module _ {H S D E : Type 0} (end_sides : Sides E) (s s' : ShelfMoment H) (input : Moment S) (link link' : LinkMoment D E)
     (output : Result Output Stop) where
   -- a command that waits does not read it
-  pub unread-input : (command : Command) → is_plain command ≡ false
-      → ComesTo talk command (outside s no_input link) (outside s' no_input link') output
-      → ComesTo talk command (outside s input link) (outside s' input link') output
+  pub unread-input : (command : Command) → waits_for_nobody command ≡ false
+      → ComesTo end_sides command (outside s no_input link) (outside s' no_input link') output
+      → ComesTo end_sides command (outside s input link) (outside s' input link') output
   unread-input (Concepts file json) waits comes = cc
   unread-input (Lattice file) waits comes = cc
   unread-input (Basis file json) waits comes = cc
@@ -324,14 +324,14 @@ module _ {H S : Type 0} (s s' : ShelfMoment H) (input input' : Moment S) (output
   behind = outside s' input' unlinked
 
   -- the same of each of them
-  plainly : (command : Command) → is_plain command ≡ true
-      → IfOk output (MayRead (output_read command s.tells input.bytes))
+  plainly : (command : Command) → waits_for_nobody command ≡ true
+      → IfOk output (MayRead (command_output command s.tells input.bytes))
       → IfOk output (λ output. MayEndWith command output.ending)
       → IfOk output (λ output. HasCourse command s.tells input.bytes output.text)
       → IfErr output (IsCommandStop command before behind)
-      → IfErr output (λ stop. (IsRefusal stop → MayRefuse (then {Y = Unit {0}} (output_read command s.tells input.bytes) (λ _. Read tt))))
+      → IfErr output (λ stop. (IsRefusal stop → MayRefuse (then {Y = Unit {0}} (command_output command s.tells input.bytes) (λ _. Read tt))))
       → IfErr output (IsBlamed (FaultRose command before behind) ⊥)
-      → (IsGiven (then {Y = Unit {0}} (output_read command s.tells input.bytes) (λ _. Read tt))
+      → (IsGiven (then {Y = Unit {0}} (command_output command s.tells input.bytes) (λ _. Read tt))
       → IfErr output (λ stop. (stop ≡ Memory) ⊎ (FaultRose command before behind ⊎ ⊥)))
       → (reads_input command ≡ true → OnOk output (IsAtEnd input'.bytes))
       → (reads_input command ≡ false → input' ≡ input)
@@ -359,19 +359,19 @@ module _ {H S : Type 0} (s s' : ShelfMoment H) (input input' : Moment S) (output
     given_back = tt;
   }
 
-  plain-unlinked : (command : Command) (R : Type 0) (stop : Stop) → is_plain command ≡ true
+  plain-unlinked : (command : Command) (R : Type 0) (stop : Stop) → waits_for_nobody command ≡ true
       → IsBlamed R (LinkFaultRose command before behind) stop → IsBlamed R ⊥ stop
   plain-unlinked (Explore file known names experts) R stop plain blamed = cc
   plain-unlinked (Serve file known experts holders listen) R stop plain blamed = cc
   plain-unlinked (Survey seed objects attributes density experts) R stop plain blamed = cc
   plain-unlinked _ R stop plain blamed = blamed
 
-  pub plain-comes : (command : Command) → is_plain command ≡ true
-      → IfOk output (MayRead (output_read command s.tells input.bytes))
+  pub plain-comes : (command : Command) → waits_for_nobody command ≡ true
+      → IfOk output (MayRead (command_output command s.tells input.bytes))
       → IfOk output (λ output. MayEndWith command output.ending)
       → IfOk output (λ output. HasCourse command s.tells input.bytes output.text)
       → IfErr output (IsCommandStop command before behind)
-      → IfErr output (λ stop. (IsRefusal stop → MayRefuse (output_read command s.tells input.bytes)))
+      → IfErr output (λ stop. (IsRefusal stop → MayRefuse (command_output command s.tells input.bytes)))
       → (reads_input command ≡ true → OnOk output (IsAtEnd input'.bytes))
       → (reads_input command ≡ false → input' ≡ input)
       → IfErr output (λ stop. (IsOfFile stop → input' ≡ input))
@@ -381,11 +381,11 @@ module _ {H S : Type 0} (s s' : ShelfMoment H) (input input' : Moment S) (output
       → ComesTo no_sides command before behind output
   plain-comes command plain answers ends courses causes refuses at_end kept unread quiet quiet_input few =
       let R : Type 0 = FaultRose command before behind in
-      let reading : Reading (Unit {0}) = then (output_read command s.tells input.bytes) (λ _. Read tt) in
+      let reading : Reading (Unit {0}) = then (command_output command s.tells input.bytes) (λ _. Read tt) in
       let Refuses : Stop → Type 0 = λ stop. (IsRefusal stop → MayRefuse reading) in
       let refusals : IfErr output Refuses =
-      IfErr-weaker output (λ stop. (IsRefusal stop → MayRefuse (output_read command s.tells input.bytes))) Refuses
-      (λ stop may. λ refusal. refused_then (output_read command s.tells input.bytes) (λ _. Read tt) (may refusal)) refuses in
+      IfErr-weaker output (λ stop. (IsRefusal stop → MayRefuse (command_output command s.tells input.bytes))) Refuses
+      (λ stop may. λ refusal. refused_then (command_output command s.tells input.bytes) (λ _. Read tt) (may refusal)) refuses in
       let blames : IfErr output (IsBlamed R ⊥) =
       IfErr-weaker output (IsCommandStop command before behind) (IsBlamed R ⊥)
       (λ stop is. plain-unlinked command R stop plain (stop-blamed command before behind stop is)) causes in
@@ -397,9 +397,9 @@ module _ {H S : Type 0} (s s' : ShelfMoment H) (input input' : Moment S) (output
       few
 
   -- a link that is there is left as it was
-  module _ {D E : Type 0} (talk : Sides E) (link : LinkMoment D E) where
-    pub plain-linked : (command : Command) → is_plain command ≡ true → ComesTo no_sides command before behind output
-        → ComesTo talk command (outside s input link) (outside s' input' link) output
+  module _ {D E : Type 0} (end_sides : Sides E) (link : LinkMoment D E) where
+    pub plain-linked : (command : Command) → waits_for_nobody command ≡ true → ComesTo no_sides command before behind output
+        → ComesTo end_sides command (outside s input link) (outside s' input' link) output
     plain-linked (Explore file known names experts) plain comes = cc
     plain-linked (Serve file known experts holders listen) plain comes = cc
     plain-linked (Survey seed objects attributes density experts) plain comes = cc
@@ -427,7 +427,7 @@ module _ {H S : Type 0} (s s' : ShelfMoment H) (input input' : Moment S) (output
 
 -- ---- want of memory for the words
 
-module _ {H S D E : Type 0} (talk : Sides E) (old : Outside H S D E) where
+module _ {H S D E : Type 0} (end_sides : Sides E) (old : Outside H S D E) where
   memory-causes : (command : Command) → IsCommandStop command old old Memory
   memory-causes (Scale values plan) = inl tt
   memory-causes (Replay file known) = inl (inl tt)
@@ -438,7 +438,7 @@ module _ {H S D E : Type 0} (talk : Sides E) (old : Outside H S D E) where
   memory-causes _ = inl tt
 
   -- no end was accepted and none given back
-  memory-back : (command : Command) → HasGivenBack talk command old.link old.link (Err Memory)
+  memory-back : (command : Command) → HasGivenBack end_sides command old.link old.link (Err Memory)
   memory-back (Serve file known experts holders listen) = record {
     before = [];
     after = [];
@@ -449,7 +449,7 @@ module _ {H S D E : Type 0} (talk : Sides E) (old : Outside H S D E) where
   }
   memory-back _ = tt
 
-  memory-comes : (command : Command) → ComesTo talk command old old (Err Memory)
+  memory-comes : (command : Command) → ComesTo end_sides command old old (Err Memory)
   memory-comes command = record {
     allowed = tt;
     ending = tt;
@@ -470,7 +470,7 @@ module _ {H S D E : Type 0} (talk : Sides E) (old : Outside H S D E) where
     given_back = memory-back command;
   }
 
-  pub call-memory : (call : Option Command) → CallComesTo talk call old old (Err Memory)
+  pub call-memory : (call : Option Command) → CallComesTo end_sides call old old (Err Memory)
   call-memory None = (inr refl, refl)
   call-memory (Some command) = memory-comes command
 

@@ -16,7 +16,7 @@ use Rattle.command_io.specs.Readings.{Reading, then, MayRead}
 use Rattle.command_io.specs.Readings.Reading.{Read}
 use Rattle.command_io.specs.Known.{Start}
 use Rattle.command_io.specs.Endings.{Output}
-use Rattle.command_io.specs.Explorations.{Exploration, opening_of, last_state, open_at, IsExplored}
+use Rattle.command_io.specs.Explorations.{Exploration, opening_of, last_state, last_open, IsExplored}
 use Rattle.command_io.proofs.ReadingLemmas.{read_after}
 use Rattle.replay_command.specs.Replayed.{MayReplay}
 use Rattle.replay_command.proofs.FedBackLemmas.{opened-respecting, fed_back}
@@ -29,7 +29,7 @@ use Rattle.fca_run.specs.Calls.{Sides}
 
 -- where no question is open at its end, the text ends with the basis, and then come the lines behind
 ends-with-basis : (r : Exploration) (later text : Text) → IsExplored r
-    → text ≡ explore_text r.opening.table r.opening.settings r.journal ++ later → open_at r ≡ []
+    → text ≡ explore_text r.opening.table r.opening.settings r.journal ++ later → last_open r ≡ []
     → text ≡ text_before_basis r.opening.table r.opening.settings r.journal ++ (known_basis_lines r ++ later)
 ends-with-basis r later text explored printed none =
     let t : NamedContext = r.opening.table in
@@ -81,9 +81,9 @@ replay-tells reading output replay =
     (subst (Spells r.opening.table r.opening.settings r.journal) (sym is) replay.is.spells) replay.is.course
 
 -- by experts at the ends of a link
-module _ {E : Type 0} (talk : Sides E) where
+module _ {E : Type 0} (end_sides : Sides E) where
   pub serve-tells : (reading : Reading Start) (experts holders : ℕ) (old new : Option (Ends E)) (output : Output)
-      → MayServe talk.left talk.held talk.reads talk.read_faults talk.write_faults reading experts holders old new output
+      → MayServe end_sides.left end_sides.held end_sides.reads end_sides.read_faults end_sides.write_faults reading experts holders old new output
       → TellsExploration (then reading (λ start. Read (opening_by experts holders start))) output.text
   serve-tells reading experts holders old new output serve =
       let o : Opening = opening_by experts holders serve.0 in

@@ -23,7 +23,7 @@ use Rattle.replay_command.specs.Replayed.{IsReplayStop}
 use Rattle.explore_command.specs.Starts.{explore_read, IsExploreStop}
 use Rattle.explore_command.specs.Explored.{MayExplore}
 use Rattle.serve_command.specs.Served.{MayServe, IsServeStop, GaveAllBack}
-use Rattle.fca_run.specs.Outputs.{output_read}
+use Rattle.fca_run.specs.Outputs.{command_output}
 use Rattle.fca_run.specs.Courses.{HasCourse}
 use Rattle.fca_run.specs.Causes.{IsScaleStop, IsReportStop, command_file_at_fault}
 
@@ -129,9 +129,9 @@ module _ {L E : Type 0} where
 
   -- if the command serves experts at ends, the accepted ends are given back; if the listener failed, they are fewer than the experts
   abbrev pub HasGivenBack : Sides E → Command → LinkMoment L E → LinkMoment L E → Result Output Stop → Type 0
-  HasGivenBack talk (Serve file known experts holders listen) old new output =
-      GaveAllBack talk.left talk.held talk.reads talk.read_faults talk.write_faults experts old.ends new.ends (output ≡ Err Listener)
-  HasGivenBack talk _ old new output = ⊤
+  HasGivenBack end_sides (Serve file known experts holders listen) old new output =
+      GaveAllBack end_sides.left end_sides.held end_sides.reads end_sides.read_faults end_sides.write_faults experts old.ends new.ends (output ≡ Err Listener)
+  HasGivenBack end_sides _ old new output = ⊤
 
 module _ {H S L E : Type 0} where
   -- All that the command reads. Every row of a table that is explored has to respect what is known of it, and beside a known file the
@@ -139,7 +139,7 @@ module _ {H S L E : Type 0} where
   abbrev pub read_by : Command → Outside H S L E → Reading (Unit {0})
   read_by (Explore file known names experts) old = then (explore_read file known names experts old.shelf.tells) (λ _. Read tt)
   read_by (Serve file known experts holders listen) old = then (start_read file known old.shelf.tells) (λ _. Read tt)
-  read_by command old = then (output_read command old.shelf.tells old.input.bytes) (λ _. Read tt)
+  read_by command old = then (command_output command old.shelf.tells old.input.bytes) (λ _. Read tt)
 
   -- ---- counts of faults
 
@@ -197,19 +197,19 @@ module _ {H S L E : Type 0} where
 
   -- an output of the command, by what the shelf, the input and the ends of the link tell
   abbrev pub MayOutput : Sides E → Command → Outside H S L E → Outside H S L E → Output → Type 0
-  MayOutput talk (Explore file known names experts) old new output =
+  MayOutput end_sides (Explore file known names experts) old new output =
       MayExplore (explore_read file known names experts old.shelf.tells) output
-  MayOutput talk (Serve file known experts holders listen) old new output =
-      MayServe talk.left talk.held talk.reads talk.read_faults talk.write_faults
+  MayOutput end_sides (Serve file known experts holders listen) old new output =
+      MayServe end_sides.left end_sides.held end_sides.reads end_sides.read_faults end_sides.write_faults
       (start_read file known old.shelf.tells) experts holders old.link.ends new.link.ends output
-  MayOutput talk command old new output = MayRead (output_read command old.shelf.tells old.input.bytes) output
+  MayOutput end_sides command old new output = MayRead (command_output command old.shelf.tells old.input.bytes) output
 
   -- ---- the first part of a call
 
   -- What a command comes to, and what it has touched by then
-  pub record ComesTo (talk : Sides E) (command : Command) (old new : Outside H S L E) (output : Result Output Stop) : Type 0 where
+  pub record ComesTo (end_sides : Sides E) (command : Command) (old new : Outside H S L E) (output : Result Output Stop) : Type 0 where
     -- An output is one of the command, and ends as its outputs may. If the command explores, it tells of the exploration of its table
-    pub allowed : IfOk output (MayOutput talk command old new)
+    pub allowed : IfOk output (MayOutput end_sides command old new)
     pub ending : IfOk output (λ output. MayEndWith command output.ending)
     pub course : IfOk output (λ output. HasCourse command old.shelf.tells old.input.bytes output.text)
     -- A stop has its cause, and refuses only what may be refused. The counts of the outside say so too, of faults and of fetches
@@ -227,19 +227,19 @@ module _ {H S L E : Type 0} where
     pub link_kept : uses_link command ≡ false → new.link ≡ old.link
     pub unheard : IfErr output (λ stop. (IsUnread stop → new.link ≡ old.link) × (IsOfFile stop → new.input ≡ old.input))
     pub listens : OnOk output (MayListen command new.link)
-    pub given_back : HasGivenBack talk command old.link new.link output
+    pub given_back : HasGivenBack end_sides command old.link new.link output
 
   -- what a call comes to; if its words are no command, all is as it was
   abbrev pub CallComesTo : Sides E → Option Command → Outside H S L E → Outside H S L E → Result Output Stop → Type 0
-  CallComesTo talk (Some command) old new output = ComesTo talk command old new output
-  CallComesTo talk None old new output = ((output ≡ Err NoCommand) ⊎ (output ≡ Err Memory)) × (new ≡ old)
+  CallComesTo end_sides (Some command) old new output = ComesTo end_sides command old new output
+  CallComesTo end_sides None old new output = ((output ≡ Err NoCommand) ⊎ (output ≡ Err Memory)) × (new ≡ old)
 
   -- ---- a call
 
   -- What a call does, of this command or of none: it comes to an output or a stop, writes that to out or to err, and gives its status
-  pub record HasRun {K F : Type 0} (talk : Sides E) (call : Option Command) (old new : Outside H S L E) (out out' : Moment K)
+  pub record HasRun {K F : Type 0} (end_sides : Sides E) (call : Option Command) (old new : Outside H S L E) (out out' : Moment K)
       (err err' : Moment F)
       (result : ℕ) : Type 0 where
     pub output : Result Output Stop
-    pub comes : CallComesTo talk call old new output
+    pub comes : CallComesTo end_sides call old new output
     pub concluded : HasConcluded output (command_file_at_fault call) out out' err err' result

@@ -15,7 +15,7 @@ use Rattle.fca_command.specs.declared.command.Command.TheVariants.{Replay, Explo
 use Rattle.command_io.specs.Readings.{Reading, then, MayRead}
 use Rattle.command_io.specs.Readings.Reading.{Refused, Read}
 use Rattle.command_io.specs.Known.{start_read}
-use Rattle.command_io.specs.Explorations.{Exploration, opening_of, last_state, open_at, IsExplored}
+use Rattle.command_io.specs.Explorations.{Exploration, opening_of, last_state, last_open, IsExplored}
 use Rattle.replay_command.specs.Replayed.{replay_read, IsFedBack}
 use Rattle.explore_command.specs.Starts.{explore_read}
 use Rattle.serve_command.specs.Openings.{opening_by}
@@ -48,7 +48,7 @@ pub record TellsExploration (opened : Reading Opening) (text : Text) : Type 0 wh
   -- if no question is open at the end, they are that basis
   pub explored : IsExplored exploration
   -- if no question is open, the section of the basis is the basis of all recorded rows from scratch, in lectic order
-  pub basis : open_at exploration ≡ []
+  pub basis : last_open exploration ≡ []
       → text ≡ text_before_basis exploration.opening.table exploration.opening.settings exploration.journal ++ (known_basis_lines exploration ++ later)
   -- if the text is no longer than a file may be, its replay is exactly this exploration
   pub fed_back : length text ≤ FILE_BYTES → IsFedBack exploration text

@@ -15,7 +15,7 @@ use Rattle.command_io.specs.Endings.{Output, finished}
 use Rattle.cxt_format.specs.Written.{cxt_text}
 use Rattle.explore_command.specs.Surveyed.{surveyed_text}
 use Rattle.replay_command.specs.Replayed.{replay_output}
-use Rattle.fca_run.specs.Reports.{report_read}
+use Rattle.fca_run.specs.Reports.{report_output}
 
 -- ---- tables of values
 
@@ -48,9 +48,9 @@ other_output _ files input = Untold
 
 -- what the command writes, by the file that it reports on, if there is one
 abbrev pub output_by : Option Text → Command → (Text → Told) → Option Text → Reading Output
-output_by (Some file) command files input = report_read command file files
+output_by (Some file) command files input = report_output command file files
 output_by None command files input = other_output command files input
 
 -- what the command writes, if the files and the input hold this
-abbrev pub output_read : Command → (Text → Told) → Option Text → Reading Output
-output_read command files input = output_by (report_file command) command files input
+abbrev pub command_output : Command → (Text → Told) → Option Text → Reading Output
+command_output command files input = output_by (report_file command) command files input

@@ -54,9 +54,9 @@ verdict_read premise conclusion table =
     then (attributes_read table conclusion) (λ C.
     Read (table_verdict P C table)))
 
-abbrev pub table_text : Form → NamedContext → Text
-table_text Cxt table = cxt_text table
-table_text Csv table = csv_text table
+abbrev pub converted_text : Form → NamedContext → Text
+converted_text Cxt table = cxt_text table
+converted_text Csv table = csv_text table
 
 -- the table of the irreducible objects and attributes
 abbrev pub reduced_text : NamedContext → Text
@@ -80,12 +80,12 @@ table_report (Lattice file) table = Read (table_lattice table)
 table_report (Basis file json) table = Read (table_basis json table)
 table_report (Direct file) table = Read (table_direct table)
 table_report (Follows file premise conclusion) table = verdict_read premise conclusion table
-table_report (Convert file to) table = Read (table_text to table)
+table_report (Convert file to) table = Read (converted_text to table)
 table_report (Reduce file) table = Read (reduced_text table)
 table_report (Arrows file) table = Read (table_arrows table)
 table_report _ table = Refused
 
 -- what the command reports of the table in the file
-abbrev pub report_read : Command → Text → (Text → Told) → Reading Output
-report_read command file files =
+abbrev pub report_output : Command → Text → (Text → Told) → Reading Output
+report_output command file files =
     then (table_read file (files file)) (λ table. then (table_report command table) (λ text. Read (finished text)))

@@ -3,12 +3,12 @@
 ghost use Rattle.std.specs.Prelude.{◌≡◌, true, false, None, Some, IfOk, IfErr, OnOk, length};
 ghost use Rattle.std.specs.Io.KnownBytes.{IsAtEnd};
 ghost use Rattle.fca_io.specs.Faults.{RoseAtMost};
-ghost use Rattle.fca_command.specs.Commands.{command_form, report_file, files_of, reads_input, is_plain, IsWithinLimits};
+ghost use Rattle.fca_command.specs.Commands.{command_form, report_file, files_of, reads_input, waits_for_nobody, IsWithinLimits};
 ghost use Rattle.command_io.specs.Readings.{MayRead, MayRefuse, SameCounts};
 ghost use Rattle.command_io.specs.Causes.{UnlessFault};
 ghost use Rattle.command_io.specs.Endings.{IsRefusal, IsOfFile};
 ghost use Rattle.command_io.specs.Streams.{moment, HasConcluded};
-ghost use Rattle.fca_run.specs.Outputs.{output_read, other_output};
+ghost use Rattle.fca_run.specs.Outputs.{command_output, other_output};
 ghost use Rattle.fca_run.specs.Courses.{HasCourse};
 ghost use Rattle.fca_run.specs.Causes.{command_file_at_fault};
 ghost use Rattle.fca_run.specs.Calls.{shelf_moment, link_moment, unlinked, no_input, sides, no_sides, outside, MayEndWith, IsOtherStop};
@@ -52,7 +52,7 @@ pub fn run<R: Threads + Wait + Sync, H: Shelf, S: Source, K: Sink, E: Sink, L: L
 {
     match command_of(alloc, words) {
         Ok(Some(command)) => {
-            if command.is_plain() {
+            if command.waits_for_nobody() {
                 return run_plain(rt, alloc, &command, shelf, input, out, err);
             }
             let output = waiting_output(rt, alloc, &command, shelf, link);
@@ -71,7 +71,7 @@ fn waiting_output<R: Threads + Wait + Sync, H: Shelf, L: Listener>(
     shelf: &mut H,
     link: &mut L,
 ) -> Result<Output, Stop>
-    requires waits { is_plain command.now ≡ false }
+    requires waits { waits_for_nobody command.now ≡ false }
     requires limits { IsWithinLimits command.now }
     requires closed { L.listens link.old ≡ false }
     ensures { ComesTo (sides L.End.Source.left L.End.Sink.held L.End.Source.reads L.End.Source.faults L.End.Sink.faults) command.now
@@ -135,7 +135,7 @@ pub fn run_plain<R: Threads + Sync, H: Shelf, S: Source, K: Sink, E: Sink>(
     out: &mut K,
     err: &mut E,
 ) -> u8
-    requires plain { is_plain command.now ≡ true }
+    requires plain { waits_for_nobody command.now ≡ true }
     requires limits { IsWithinLimits command.now }
     ensures ran { HasRun no_sides (Some command.now)
         (outside (shelf_moment H.tells H.faults H.fetches shelf.old) (moment S.left S.faults input.old) unlinked)
@@ -199,9 +199,9 @@ fn plain_output<R: Threads + Sync, H: Shelf, S: Source>(
     shelf: &mut H,
     input: &mut S,
 ) -> Result<Output, Stop>
-    requires plain { is_plain command.now ≡ true }
+    requires plain { waits_for_nobody command.now ≡ true }
     requires limits { IsWithinLimits command.now }
-    ensures output { IfOk result (λ output. MayRead (output_read command.now (H.tells shelf.old) (S.left input.old)) output) }
+    ensures output { IfOk result (λ output. MayRead (command_output command.now (H.tells shelf.old) (S.left input.old)) output) }
     ensures ending { IfOk result (λ output. MayEndWith command.now output.ending) }
     ensures course { IfOk result (λ output. HasCourse command.now (H.tells shelf.old) (S.left input.old) output.text) }
     ensures cause { IfErr result (IsCommandStop command.now
@@ -210,7 +210,7 @@ fn plain_output<R: Threads + Sync, H: Shelf, S: Source>(
     ensures quiet { UnlessFault result (SameCounts (H.faults shelf.old) (H.faults shelf.new)) }
     ensures few { RoseAtMost (H.fetches shelf.old) (H.fetches shelf.new) (length (files_of command.now)) }
     ensures quiet_input { UnlessFault result (S.faults input.new ≡ S.faults input.old) }
-    ensures refused { IfErr result (λ stop. IsRefusal stop → MayRefuse (output_read command.now (H.tells shelf.old) (S.left input.old))) }
+    ensures refused { IfErr result (λ stop. IsRefusal stop → MayRefuse (command_output command.now (H.tells shelf.old) (S.left input.old))) }
     ensures read_to_end { reads_input command.now ≡ true → OnOk result (IsAtEnd (S.left input.new)) }
     ensures input_kept { reads_input command.now ≡ false → input.new ≡ input.old }
     ensures unread { IfErr result (λ stop. IsOfFile stop → input.new ≡ input.old) }
@@ -228,7 +228,7 @@ fn other_output<H: Shelf, S: Source>(
     shelf: &mut H,
     input: &mut S,
 ) -> Result<Output, Stop>
-    requires plain { is_plain command.now ≡ true }
+    requires plain { waits_for_nobody command.now ≡ true }
     requires limits { IsWithinLimits command.now }
     requires other { report_file command.now ≡ None }
     ensures output { IfOk result (λ output. MayRead (other_output command.now (H.tells shelf.old) (S.left input.old)) output) }

@@ -11,7 +11,7 @@ ghost use Rattle.command_io.specs.Causes.{UnlessFault, IsFileStop};
 ghost use Rattle.command_io.specs.Forms.{table_read};
 ghost use Rattle.command_io.specs.Endings.{finished, IsRefusal};
 ghost use Rattle.fca_run.specs.Reports.{attributes_read, table_concepts, table_basis, table_direct, verdict_read};
-ghost use Rattle.fca_run.specs.Reports.{table_text, reduced_text, table_arrows, table_report, reads_narrow, report_read};
+ghost use Rattle.fca_run.specs.Reports.{converted_text, reduced_text, table_arrows, table_report, reads_narrow, report_output};
 ghost use Rattle.fca_run.specs.Causes.{IsReportStop};
 
 use attr_bits::Attrs;
@@ -41,9 +41,9 @@ pub fn report_output<R: Threads + Sync, H: Shelf>(
     file: &Word,
 ) -> Result<Output, Stop>
     requires { report_file command.now ≡ Some file.now }
-    ensures output { IfOk result (λ output. MayRead (report_read command.now file.now (H.tells shelf.old)) output) }
+    ensures output { IfOk result (λ output. MayRead (report_output command.now file.now (H.tells shelf.old)) output) }
     ensures finished { IfOk result (λ output. output.ending ≡ Ending.Finished) }
-    ensures refused { IfErr result (λ stop. IsRefusal stop → MayRefuse (report_read command.now file.now (H.tells shelf.old))) }
+    ensures refused { IfErr result (λ stop. IsRefusal stop → MayRefuse (report_output command.now file.now (H.tells shelf.old))) }
     ensures cause { IfErr result (IsReportStop command.now file.now (H.tells shelf.old file.now)
         (Rises (H.faults shelf.old) (H.faults shelf.new) file.now)) }
     ensures quiet { UnlessFault result (SameCounts (H.faults shelf.old) (H.faults shelf.new)) }
@@ -66,7 +66,7 @@ fn narrow_output<R: Threads + Sync, H: Shelf>(
     file: &Word,
 ) -> Result<Output, Stop>
     requires { reads_narrow command.now ≡ true }
-    ensures output { IfOk result (λ output. MayRead (report_read command.now file.now (H.tells shelf.old)) output) }
+    ensures output { IfOk result (λ output. MayRead (report_output command.now file.now (H.tells shelf.old)) output) }
     ensures finished { IfOk result (λ output. output.ending ≡ Ending.Finished) }
     ensures refused { IfErr result (λ stop. IsRefusal stop → MayRefuse (table_read file.now (H.tells shelf.old file.now))) }
     ensures cause { IfErr result (IsFileStop file.now (H.tells shelf.old file.now)
@@ -110,9 +110,9 @@ fn table_output<R: Threads + Sync, H: Shelf>(
 ) -> Result<Output, Stop>
     requires reports { is_some (report_file command.now) ≡ true }
     requires whole { reads_narrow command.now ≡ false }
-    ensures output { IfOk result (λ output. MayRead (report_read command.now file.now (H.tells shelf.old)) output) }
+    ensures output { IfOk result (λ output. MayRead (report_output command.now file.now (H.tells shelf.old)) output) }
     ensures finished { IfOk result (λ output. output.ending ≡ Ending.Finished) }
-    ensures refused { IfErr result (λ stop. IsRefusal stop → MayRefuse (report_read command.now file.now (H.tells shelf.old))) }
+    ensures refused { IfErr result (λ stop. IsRefusal stop → MayRefuse (report_output command.now file.now (H.tells shelf.old))) }
     ensures cause { IfErr result (IsReportStop command.now file.now (H.tells shelf.old file.now)
         (Rises (H.faults shelf.old) (H.faults shelf.new) file.now)) }
     ensures quiet { UnlessFault result (SameCounts (H.faults shelf.old) (H.faults shelf.new)) }
@@ -145,7 +145,7 @@ fn report_on<R: Threads + Sync>(
             conclusion,
             ..
         } => Ok(Output::of_text(verdict(rt, alloc, table, premise, conclusion)?)),
-        Command::Convert { to, .. } => Ok(Output::of_text(table_text(alloc, *to, table)?)),
+        Command::Convert { to, .. } => Ok(Output::of_text(converted_text(alloc, *to, table)?)),
         Command::Reduce { .. } => Ok(Output::of_text(reduced_text(alloc, table)?)),
         Command::Arrows { .. } => Ok(Output::of_text(table_arrows(alloc, table)?)),
         // (`reports`, `whole`: the others write no report, or read a narrow table)
@@ -208,8 +208,8 @@ fn attributes_in(table: &Table, word: &Word) -> Result<Attrs, Stop>
 }
 
 /// The text of the table in this form.
-fn table_text(alloc: Global, to: Form, table: &Table) -> Result<Vec<u8>, Memory>
-    ensures { IfOk result (λ text. text.items ≡ table_text to table.now) }
+fn converted_text(alloc: Global, to: Form, table: &Table) -> Result<Vec<u8>, Memory>
+    ensures { IfOk result (λ text. text.items ≡ converted_text to table.now) }
 {
     match to {
         Form::Cxt => write_cxt(alloc, table),

@@ -19,7 +19,7 @@ use Rattle.fca_model.proofs.ListLemmas.{list_all_from, list_all-filter_kept, fil
 use Rattle.fca_model.proofs.SetLemmas.{same_refl, same-true, same_from, lectic_refl}
 use Rattle.fca_model.proofs.ClosureLemmas.{length-closure}
 use Rattle.fca_model.proofs.LevelLemmas.{level_all}
-use Rattle.level_queue.specs.Queue.{Base, HasPart, IsQueue}
+use Rattle.level_queue.specs.Queue.{QueueModel, HasPart, IsQueue}
 use Rattle.level_queue.specs.Rules.{RuleParts}
 use Rattle.level_queue.proofs.RowLemmas.{questions_all}
 
@@ -136,19 +136,19 @@ others_remove (i ∷ is) (suc n) q up l e =
     list_all-map p (j ∷ js) = ap (λ b. p j.premise && b) (list_all-map p js)
 
 -- one accepted implication more
-abbrev more : Base → Rule → Base
+abbrev more : QueueModel → Rule → QueueModel
 more b x = record { context = b.context; known = b.known; accepted = b.accepted ++ x ∷ [] }
 
-abbrev pub base : Context → RuleParts → Base
+abbrev pub base : Context → RuleParts → QueueModel
 base K p = record { context = K; known = p.known; accepted = p.accepted }
 
-pub accepted_base : (K : Context) (rules p : RuleParts) (questions : List Rule) (now : Base) (n : ℕ) (q question : Rule)
+pub accepted_base : (K : Context) (rules p : RuleParts) (questions : List Rule) (now : QueueModel) (n : ℕ) (q question : Rule)
     → base K rules ≡ now → p ≡ record { width = rules.width; known = rules.known; accepted = rules.accepted ++ q ∷ [] }
     → n < length questions → q ≡ get_or questions n q → slice_get questions n ≡ Some question
     → base K p ≡ record { context = now.context; known = now.known; accepted = now.accepted ++ question ∷ [] }
 accepted_base K rules p questions now n q question v is l at s =
     let same_question : q ≡ question = inside (is_some_of (sym (slice_get-get_or questions n q l) ∙ s) at) in
-    ap (base K) is ∙ ap (λ (b : Base). more b q) v ∙ ap (more now) same_question
+    ap (base K) is ∙ ap (λ (b : QueueModel). more b q) v ∙ ap (more now) same_question
   where
     inside : {a b : Rule} → Some a ≡ Some b → a ≡ b
     inside e = cc

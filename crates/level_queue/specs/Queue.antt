@@ -13,7 +13,7 @@ use Rattle.fca_model.specs.Levels.{level_of}
 -- ---- what callers see
 
 -- the rows, what is known, and what was accepted
-pub record Base : Type 0 where
+pub record QueueModel : Type 0 where
   pub context : Context
   pub known : List Rule
   pub accepted : List Rule

@@ -51,9 +51,9 @@ impl Drop for LevelQueue {
 impl Model for LevelQueue {
     ghost use Rattle.std.specs.Prelude.{◌≡◌, ◌++◌};
     ghost use Rattle.next_level.specs.Among.{IsAhead};
-    ghost use Rattle.level_queue.specs.Queue.{Base, IsKeptQueue};
+    ghost use Rattle.level_queue.specs.Queue.{QueueModel, IsKeptQueue};
 
-    ghost Value = { Base };
+    ghost Value = { QueueModel };
 
     ghost view = { λ a. record { context = a.rows; known = a.rules.known; accepted = a.rules.accepted } };
 

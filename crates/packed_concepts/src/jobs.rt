@@ -43,7 +43,7 @@ pub(crate) fn line_jobs<'a, 'b, const W: usize>(
     let mut jobs = Vec::new(alloc);
     let mut from = 0;
     while from < stretches.len() {
-        let end = from + first_job(&stretches[from..]);
+        let end = from + len_of_first_job(&stretches[from..]);
         jobs.push(&stretches[from..end])?;
         from = end;
     }
@@ -51,7 +51,7 @@ pub(crate) fn line_jobs<'a, 'b, const W: usize>(
 }
 
 /// The number of stretches of the first job: at least one.
-fn first_job<const W: usize>(stretches: &[Stretch<'_, W>]) -> usize
+fn len_of_first_job<const W: usize>(stretches: &[Stretch<'_, W>]) -> usize
     requires { 0 < length stretches.now }
     ensures some { 0 < result }
     ensures inside { result ≤ length stretches.now }

@@ -8,7 +8,7 @@ use Rattle.fca_model.specs.declared.TheConstants.{MAX_EXPERTS}
 use Rattle.fca_model.specs.Exploration.{State, Settings, SetEvent, SetReply, SetEntry, is_expert, expert_of, has_width, reply_to}
 use Rattle.fca_model.specs.Exploration.{state_after, journal_of, events_of}
 use Rattle.fca_model.proofs.RunLemmas.{journal_of-push, events_of-journal_of}
-use Rattle.explore_state.specs.History.{Opening, History, opening_state, state_of, Admits, IsStep}
+use Rattle.explore_state.specs.History.{Opening, ExploreModel, opening_state, state_of, Admits, IsStep}
 use Rattle.expert_scripts.specs.Scripts.{ScriptContent, may_apply}
 use Rattle.command_io.specs.Readings.{Reading, MayRead}
 use Rattle.command_io.specs.Causes.{IsScriptStop}
@@ -20,16 +20,16 @@ use Rattle.replay_command.specs.Replayed.{replay_opening, exploration_by, explor
 use Rattle.replay_command.specs.Replayed.{IsInputStop}
 
 -- the parts of an exploration that is as far as these events
-opened : (table : NamedContext) (settings : Settings) (events : List SetEvent) (h : History)
+opened : (table : NamedContext) (settings : Settings) (events : List SetEvent) (h : ExploreModel)
     → exploration_of h ≡ exploration_by table settings events → h.opening ≡ replay_opening table settings
 opened table settings events h e = ap (λ (r : Exploration). r.opening) e
 
-logged : (table : NamedContext) (settings : Settings) (events : List SetEvent) (h : History)
+logged : (table : NamedContext) (settings : Settings) (events : List SetEvent) (h : ExploreModel)
     → exploration_of h ≡ exploration_by table settings events
     → h.journal ≡ journal_of (opening_state (replay_opening table settings)) events
 logged table settings events h e = ap (λ (r : Exploration). r.journal) e
 
-state_of-explored : (table : NamedContext) (settings : Settings) (events : List SetEvent) (h : History)
+state_of-explored : (table : NamedContext) (settings : Settings) (events : List SetEvent) (h : ExploreModel)
     → exploration_of h ≡ exploration_by table settings events
     → state_of h ≡ state_after (opening_state (replay_opening table settings)) events
 state_of-explored table settings events h e =
@@ -37,16 +37,16 @@ state_of-explored table settings events h e =
     ∙ ap (state_after (opening_state (replay_opening table settings)))
     (events_of-journal_of (opening_state (replay_opening table settings)) events)
 
-exploration_of-parts : (h : History) (o : Opening) (H : List SetEntry) → h.opening ≡ o → h.journal ≡ H
+exploration_of-parts : (h : ExploreModel) (o : Opening) (H : List SetEntry) → h.opening ≡ o → h.journal ≡ H
     → exploration_of h ≡ record { opening = o; journal = H }
 exploration_of-parts h o H opening journal = cc
 
-pub exploration_of-start : (table : NamedContext) (settings : Settings) (h : History) → h.opening ≡ replay_opening table settings → h.journal ≡ []
+pub exploration_of-start : (table : NamedContext) (settings : Settings) (h : ExploreModel) → h.opening ≡ replay_opening table settings → h.journal ≡ []
     → exploration_of h ≡ exploration_by table settings []
 unfolding journal_of
 exploration_of-start table settings h opening journal = exploration_of-parts h (replay_opening table settings) [] opening journal
 
-pub exploration_of-push : (table : NamedContext) (settings : Settings) (events : List SetEvent) (old new : History) (event : SetEvent)
+pub exploration_of-push : (table : NamedContext) (settings : Settings) (events : List SetEvent) (old new : ExploreModel) (event : SetEvent)
     (reply : SetReply)
     → exploration_of old ≡ exploration_by table settings events → IsStep old new event reply
     → exploration_of new ≡ exploration_by table settings (events ++ event ∷ [])
@@ -60,7 +60,7 @@ exploration_of-push table settings events old new event reply e step =
     (step.journal ∙ ap (λ H. entry H reply) (logged table settings events old e) ∙ ap (λ r. entry (journal_of s events) r) right
     ∙ sym (journal_of-push s events event))
 
-pub exploration_of-admits : (table : NamedContext) (settings : Settings) (events : List SetEvent) (h : History) (event : SetEvent)
+pub exploration_of-admits : (table : NamedContext) (settings : Settings) (events : List SetEvent) (h : ExploreModel) (event : SetEvent)
     → exploration_of h ≡ exploration_by table settings events → may_apply table.context.width event ≡ true → Admits h.opening event
 exploration_of-admits table settings events h event e may =
     let parts = and_parts (is_expert (expert_of event)) (has_width table.context.width event) may in

@@ -23,7 +23,7 @@ use Rattle.command_io.specs.Forms.{table_read, script_read}
 use Rattle.command_io.specs.Causes.{IsScriptStop}
 use Rattle.command_io.specs.Known.{Start, if_respected, start_read, IsBreakStop, IsStartStop}
 use Rattle.command_io.specs.Endings.{Output, ending_of}
-use Rattle.command_io.specs.Explorations.{Exploration, opening_of, open_at, IsExplored}
+use Rattle.command_io.specs.Explorations.{Exploration, opening_of, last_open, IsExplored}
 use Rattle.command_io.specs.declared.stop.Origin.TheVariants.{Input}
 use Rattle.command_io.specs.declared.stop.Stop.{Stop}
 use Rattle.command_io.specs.declared.stop.Stop.TheVariants.{NoScript}
@@ -43,7 +43,7 @@ settings_read (Some file) S table said = then (of_first_version said.second said
 
 -- An exploration of the table may be opened with these settings, and a text can spell them: what is known has the table's width, and every
 -- row respects it
-pub record MayOpen (table : NamedContext) (s : told.Settings) : Type 0 where
+pub record MayReplay (table : NamedContext) (s : told.Settings) : Type 0 where
   pub width : s.known.width ≡ table.context.width
   pub respected : first_break s.known.members 0 table.context.rows ≡ None
   pub writable : SettingsCanBeWritten table.context.width (settings_of s)
@@ -70,7 +70,7 @@ replay_read file known files input = then (start_read file known files) (explora
 
 -- the text of an exploration
 abbrev pub exploration_output : Exploration → Output
-exploration_output r = record { text = explore_text r.opening.table r.opening.settings r.journal; ending = ending_of (open_at r) }
+exploration_output r = record { text = explore_text r.opening.table r.opening.settings r.journal; ending = ending_of (last_open r) }
 
 -- what `replay` writes
 abbrev pub replay_output : Text → Option Text → (Text → Told) → Option Text → Reading Output

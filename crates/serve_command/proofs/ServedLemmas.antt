@@ -11,7 +11,7 @@ use Rattle.expert_gate.specs.Histories.{IsHistory}
 use Rattle.expert_sessions.specs.Serving.{EachTalks}
 use Rattle.expert_sessions.specs.declared.ended.Ended.{Ended}
 use Rattle.expert_sessions.specs.declared.ended.Ended.TheVariants.{Quit, EndOfInput, ReadFault, WriteFault, LongLine, Limit, Spent, Memory}
-use Rattle.explore_state.specs.History.{Opening, History, opening_state, open_of}
+use Rattle.explore_state.specs.History.{Opening, ExploreModel, opening_state, open_of}
 use Rattle.basis_report.specs.Comments.{are_lines, AreComments}
 use Rattle.basis_report.specs.Explorations.{explore_text, Spells, SpellsBefore}
 use Rattle.basis_report.specs.Sessions.{sessions_text}
@@ -39,7 +39,7 @@ words_are_lines (Spent ∷ ended) = words_are_lines ended
 words_are_lines (Memory ∷ ended) = words_are_lines ended
 
 -- lines behind the text of an exploration change nothing of what it spells
-pub spelled-sessions : (sessions text : Text) (explore : History) → SettingsCanBeWritten explore.opening.table.context.width explore.opening.settings
+pub spelled-sessions : (sessions text : Text) (explore : ExploreModel) → SettingsCanBeWritten explore.opening.table.context.width explore.opening.settings
     → ((more : List Text) → are_lines more ≡ true → SettingsCanBeWritten explore.opening.table.context.width explore.opening.settings
     → SpellsBefore explore.opening.table explore.opening.settings explore.journal more)
     → AreComments sessions → text ≡ explore_text explore.opening.table explore.opening.settings explore.journal ++ sessions
@@ -52,7 +52,7 @@ spelled-sessions sessions text explore told spells skipped joined =
 -- ---- openings
 
 -- an exploration that was opened so is new
-pub new-opened : (experts holders : ℕ) (start : Start) (h : History) → h.opening ≡ opening_by experts holders start → h.journal ≡ []
+pub new-opened : (experts holders : ℕ) (start : Start) (h : ExploreModel) → h.opening ≡ opening_by experts holders start → h.journal ≡ []
     → is_expert experts ≡ true → is_expert holders ≡ true
     → rows_respect start.known start.table.context ≡ true → HaveWidth start.table.context.width start.known → IsNew h
 new-opened experts holders start h is none expert most respecting even = record {
@@ -79,20 +79,20 @@ module _ {E : Type 0} (left held : E → Option Text) (reads : E → Option ℕ)
       let rest = talks-long table n H (suc k) before after ended talks.2 in omega arith
 
   -- what sessions come to
-  pub record IsOver (o : Opening) (before after : List E) (explore : History) (ended : List Ended) : Type 0 where
+  pub record IsOver (o : Opening) (before after : List E) (explore : ExploreModel) (ended : List Ended) : Type 0 where
     pub opening : explore.opening ≡ o
     pub history : IsHistory explore.opening explore.journal
     pub talks : EachTalks left held reads read_faults write_faults o.table MAX_LINES explore.journal 1 before after ended
     pub others : (e : ℕ) → (e ≡ 0) ⊎ (length before < e) → own explore.journal e ≡ []
 
   -- the text that was made of it
-  pub record IsTextOf (explore : History) (ended : List Ended) (text : Text) (end : Ending) : Type 0 where
+  pub record IsTextOf (explore : ExploreModel) (ended : List Ended) (text : Text) (end : Ending) : Type 0 where
     pub joined : text ≡ explore_text explore.opening.table explore.opening.settings explore.journal
         ++ sessions_text (map ended_words ended)
     pub spells : Spells explore.opening.table explore.opening.settings explore.journal text
     pub ending : end ≡ ending_of (open_of explore)
 
-  pub served-text : (o : Opening) (before after : List E) (explore : History) (ended : List Ended) (text : Text) (ending : Ending)
+  pub served-text : (o : Opening) (before after : List E) (explore : ExploreModel) (ended : List Ended) (text : Text) (ending : Ending)
       → is_expert o.experts ≡ true → rows_respect o.settings.known o.table.context ≡ true → HaveWidth o.table.context.width o.settings.known
       → IsOver o before after explore ended → IsTextOf explore ended text ending
       → IsServedText left held reads read_faults write_faults o before after text ending
@@ -114,7 +114,7 @@ module _ {E : Type 0} (left held : E → Option Text) (reads : E → Option ℕ)
         ending = subst EndsSo over.opening made.ending;
       }
 
-  pub has-served-all : (o : Opening) (before after : List E) (old new : Option (Ends E)) (explore : History) (ended : List Ended)
+  pub has-served-all : (o : Opening) (before after : List E) (old new : Option (Ends E)) (explore : ExploreModel) (ended : List Ended)
       (output : Output)
       → is_expert o.experts ≡ true → rows_respect o.settings.known o.table.context ≡ true → HaveWidth o.table.context.width o.settings.known
       → IsOver o before after explore ended

@@ -21,7 +21,7 @@ use Rattle.command_io.specs.declared.stop.Stop.{Stop}
 use Rattle.command_io.specs.declared.stop.Stop.TheVariants.{Listener}
 use Rattle.command_io.specs.Endings.{Output, ending_of}
 use Rattle.command_io.specs.declared.output.Ending.{Ending}
-use Rattle.command_io.specs.Explorations.{Exploration, open_at, IsExplored}
+use Rattle.command_io.specs.Explorations.{Exploration, last_open, IsExplored}
 use Rattle.serve_command.specs.Accepted.{TookAndGave, GaveBack, HasRoomFor}
 use Rattle.serve_command.specs.Openings.{opening_by}
 use Rattle.serve_command.specs.declared.ended_words.TheConstants.{QUIT, END_OF_INPUT, LONG_LINE, LIMIT, SPENT}
@@ -58,7 +58,7 @@ module _ {E : Type 0} (left held : E → Option Text) (reads : E → Option ℕ)
     pub course : IsExplored (serving_record o history)
     pub talks : EachTalks left held reads read_faults write_faults o.table MAX_LINES history 1 before after ended
     pub others : (e : ℕ) → (e ≡ 0) ⊎ (length before < e) → own history e ≡ []
-    pub ending : end ≡ ending_of (open_at (serving_record o history))
+    pub ending : end ≡ ending_of (last_open (serving_record o history))
 
   -- the ends are as they were, or their experts have talked over them
   abbrev pub MayHaveTalked : List E → List E → Type 0

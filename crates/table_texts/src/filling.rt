@@ -5,7 +5,7 @@ ghost use Rattle.concept_walk.specs.Gatherings.{Fills};
 ghost use Rattle.table_texts.specs.Tops.{IsTop, branches, HasGathered};
 
 use crate::tops::Top;
-use concept_walk::{CrossTable, Gathering, StepListPool, gather_branch};
+use concept_walk::{CrossTable, Gathering, WorkListPool, gather_branch};
 use fca_model::Memory;
 use std::alloc::Global;
 
@@ -35,7 +35,7 @@ pub(crate) fn gather_tops<const W: usize>(
     ensures { OnOk result (Fills crosses.now gathering.old gathering.new (branches crosses.now tops.now)) }
 {
     let _width = crosses.rows().width();
-    let mut pool = StepListPool::new(alloc, crosses.rows())?;
+    let mut pool = WorkListPool::new(alloc, crosses.rows())?;
     for top in tops {
         gather_branch(alloc, crosses, gathering, &top.node(crosses), &mut pool)?;
     }

@@ -9,7 +9,7 @@ ghost use Rattle.concept_walk.specs.Nodes.{IsNode};
 ghost use Rattle.table_texts.specs.Tops.{IsTop, branches};
 
 use attr_bits::Bits;
-use concept_walk::{Candidates, CrossTable, Node, StepLists, known_witnesses, next_child};
+use concept_walk::{Candidates, CrossTable, Node, WorkLists, known_witnesses, next_child};
 use extent_places::tries_of;
 use fca_model::Memory;
 use lectic_concepts::{own_witnesses, pass_witnesses};
@@ -53,19 +53,19 @@ impl<const W: usize> Top<W> {
         }
     }
 
-    /// A guess at the work of the branch: the pairs of its objects, times the attributes that are left.
-    fn weight(&self) -> usize {
+    /// How large the branch may be: the pairs of its objects, times the attributes that are left.
+    fn bulk(&self) -> usize {
         let left = self.intent.width().saturating_sub(self.from) as usize;
         let objects = self.places.len();
         objects.saturating_mul(objects).saturating_mul(left)
     }
 }
 
-/// The least weight of a branch that is a large part of these.
+/// The least bulk of a branch that is a large part of these.
 pub(crate) fn large_part<const W: usize>(tops: &[Top<W>]) -> usize {
     let mut whole = 0usize;
     for top in tops {
-        whole = whole.saturating_add(top.weight());
+        whole = whole.saturating_add(top.bulk());
     }
     whole / LARGE
 }
@@ -133,7 +133,7 @@ pub(crate) fn split_large<const W: usize>(
     alloc: Global,
     crosses: &CrossTable<'_, W>,
     tops: &[Top<W>],
-    least_weight: usize,
+    least_bulk: usize,
 ) -> Result<Vec<Top<W>>, Memory>
     requires tops { All (IsTop crosses.now) tops.now }
     ensures tops { IfOk result (λ more. All (IsTop crosses.now) more.items) }
@@ -142,7 +142,7 @@ pub(crate) fn split_large<const W: usize>(
     let _width = crosses.rows().width();
     let mut more = Vec::new(alloc);
     for top in tops {
-        split_if_large(alloc, crosses, top, least_weight, &mut more)?;
+        split_if_large(alloc, crosses, top, least_bulk, &mut more)?;
     }
     Ok(more)
 }
@@ -152,7 +152,7 @@ fn split_if_large<const W: usize>(
     alloc: Global,
     crosses: &CrossTable<'_, W>,
     top: &Top<W>,
-    least_weight: usize,
+    least_bulk: usize,
     more: &mut Vec<Top<W>>,
 ) -> Result<(), Memory>
     requires top { IsTop crosses.now top.now }
@@ -162,7 +162,7 @@ fn split_if_large<const W: usize>(
         ≡ branches crosses.now more.old.items ++ branch crosses.now top.now.intent top.now.from) }
 {
     let _width = crosses.rows().width();
-    if least_weight <= top.weight() && more.len() < ENOUGH {
+    if least_bulk <= top.bulk() && more.len() < ENOUGH {
         return split_branch(alloc, crosses, top, more);
     }
     add_top(alloc, crosses, &top.node(crosses), more)?;
@@ -195,7 +195,7 @@ fn split_branch<const W: usize>(
         witnesses: node.witnesses,
     };
     add_top(alloc, crosses, &alone, more)?;
-    let mut scratch = StepLists::new(alloc);
+    let mut scratch = WorkLists::new(alloc);
     while node.from < candidates.end {
         let met = next_child(crosses, &node, &candidates, &mut scratch)?;
         let Some(child) = met else {

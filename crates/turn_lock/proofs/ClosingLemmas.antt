@@ -118,7 +118,7 @@ module _ {V B E : Type 0} (base_of : V → B) (history_of : V → List E) (legal
       let made = stays.2 in
       let q = closes base_of history_of legal by b turns id v s r at (stays.0 ∙ is_one) (omega arith) (stays.1 ∙ idle) in
       let log : List E = history_of q.0 in
-      let sees : (h : List E) → ((v.seen ≡ h) ⊎ IsOneOf v.shown h)
+      let sees : (h : List E) → ((v.seen ≡ h) ⊎ IsOneOf v.joined_seen h)
       → StartsWith log h = λ h has. ⊎_elim (λ e. subst (StartsWith log) e q.4) (λ m. q.5 h m) has in (
         q.0,
         q.1,

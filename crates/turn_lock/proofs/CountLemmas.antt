@@ -11,8 +11,8 @@ use Rattle.turn_lock.specs.Turns.{Counts}
 use Rattle.turn_lock.proofs.ViewLemmas.{after, after_end, only, total-set, total-push, total_below}
 
 module _ {B E : Type 0} where
-  pub few_drawn : (turns made drawn : ℕ) (vs : List (View B E)) → Counts turns made drawn vs → drawn ≤ 2 ^ 54
-  few_drawn turns made drawn vs r =
+  pub few_drawn : (turns passes drawn : ℕ) (vs : List (View B E)) → Counts turns passes drawn vs → drawn ≤ 2 ^ 54
+  few_drawn turns passes drawn vs r =
       let all = total_below (λ (v : View B E). v.drawn) (λ v. v.stands) turns vs r.most in
       let stand = r.stand in
       let few = r.few.0 in
@@ -22,10 +22,10 @@ module _ {B E : Type 0} where
       omega arith
 
   -- a view draws k tickets
-  pub Counts-set : (turns made drawn drawn' k : ℕ) (vs : List (View B E)) (id : ℕ) (v w : View B E) → get_elem? vs id ≡ some v
+  pub Counts-set : (turns passes drawn drawn' k : ℕ) (vs : List (View B E)) (id : ℕ) (v w : View B E) → get_elem? vs id ≡ some v
       → drawn' ≡ drawn + k → w.drawn ≡ v.drawn + k → w.stands ≡ v.stands → v.drawn + k ≤ turns * v.stands
-      → Counts turns made drawn vs → Counts turns made drawn' (set vs id w)
-  Counts-set turns made drawn drawn' k vs id v w at more new same room r =
+      → Counts turns passes drawn vs → Counts turns passes drawn' (set vs id w)
+  Counts-set turns passes drawn drawn' k vs id v w at more new same room r =
       let drew = total-set (λ (v : View B E). v.drawn) vs id v w at in
       let stood = total-set (λ (v : View B E). v.stands) vs id v w at in
       let sum = r.sum in
@@ -37,9 +37,9 @@ module _ {B E : Type 0} where
       }
 
   -- one more pass is made
-  pub Counts-longer : (turns made drawn : ℕ) (vs : List (View B E)) (w : View B E) → w.drawn ≡ 0 → w.stands ≡ 1 → made < 64
-      → Counts turns made drawn vs → Counts turns (made + 1) drawn (vs ++ w ∷ [])
-  Counts-longer turns made drawn vs w none one few r =
+  pub Counts-longer : (turns passes drawn : ℕ) (vs : List (View B E)) (w : View B E) → w.drawn ≡ 0 → w.stands ≡ 1 → passes < 64
+      → Counts turns passes drawn vs → Counts turns (passes + 1) drawn (vs ++ w ∷ [])
+  Counts-longer turns passes drawn vs w none one few r =
       let drew = total-push (λ (v : View B E). v.drawn) vs w in
       let stood = total-push (λ (v : View B E). v.stands) vs w in
       let sum = r.sum in
@@ -51,11 +51,11 @@ module _ {B E : Type 0} where
       }
 
   -- one view takes in what another has drawn and stands for
-  pub Counts-joined : (turns made drawn : ℕ) (vs : List (View B E)) (id : ℕ) (v v' : View B E) (other : ℕ) (w x : View B E) → other ≢ id
+  pub Counts-joined : (turns passes drawn : ℕ) (vs : List (View B E)) (id : ℕ) (v v' : View B E) (other : ℕ) (w x : View B E) → other ≢ id
       → get_elem? vs id ≡ some v → get_elem? vs other ≡ some w → get_elem? (set vs id v') other ≡ some w
       → v'.drawn ≡ v.drawn + w.drawn → v'.stands ≡ v.stands + w.stands → x.drawn ≡ 0 → x.stands ≡ 0
-      → Counts turns made drawn vs → Counts turns made drawn (set (set vs id v') other x)
-  Counts-joined turns made drawn vs id v v' other w x ne at at_w there_w drawn_v stands_v drawn_x stands_x r =
+      → Counts turns passes drawn vs → Counts turns passes drawn (set (set vs id v') other x)
+  Counts-joined turns passes drawn vs id v v' other w x ne at at_w there_w drawn_v stands_v drawn_x stands_x r =
       let drew = total-set (λ (v : View B E). v.drawn) vs id v v' at in
       let stood = total-set (λ (v : View B E). v.stands) vs id v v' at in
       let drew' = total-set (λ (v : View B E). v.drawn) (set vs id v') other w x there_w in

@@ -83,16 +83,16 @@ module _ {B E : Type 0} where
 
   -- what pass 1 has seen, or was shown
   abbrev Has : View B E → List E → Type 0
-  Has v h = (v.seen ≡ h) ⊎ IsOneOf v.shown h
+  Has v h = (v.seen ≡ h) ⊎ IsOneOf v.joined_seen h
 
   pub keeps_seen : (v : View B E) (ps : List (PassModel B E)) (h : List E) → Has v h → Has (all_gathered v ps) h
   keeps_seen v [] h a = a
   keeps_seen v (p ∷ ps) h a = keeps_seen (gathered v p) ps h
-      (inr (⊎_elim (λ e. among_right v.shown (v.seen ∷ p.seen ∷ []) h (inl e)) (λ m. among_left v.shown (v.seen ∷ p.seen ∷ []) h m) a))
+      (inr (⊎_elim (λ e. among_right v.joined_seen (v.seen ∷ p.seen ∷ []) h (inl e)) (λ m. among_left v.joined_seen (v.seen ∷ p.seen ∷ []) h m) a))
 
   pub has_seen : (v : View B E) (ps : List (PassModel B E)) (p : PassModel B E) → IsOneOf ps p → Has (all_gathered v ps) p.seen
   has_seen v [] p a = absurd a
   has_seen v (q ∷ ps) p a = ⊎_elim
       (λ e. keeps_seen (gathered v q) ps p.seen (inr
-      (among_right v.shown (v.seen ∷ q.seen ∷ []) p.seen (inr (inl (ap (λ (q : PassModel B E). q.seen) e))))))
+      (among_right v.joined_seen (v.seen ∷ q.seen ∷ []) p.seen (inr (inl (ap (λ (q : PassModel B E). q.seen) e))))))
       (λ m. has_seen (gathered v q) ps p m) a

@@ -18,34 +18,34 @@ use Rattle.turn_lock.proofs.HistoryLemmas.{own_of-others, among_append}
 
 module _ {B E : Type 0} where
   -- the view of pass 1, after a view changes in its turn or its tickets
-  pub First-kept : (made : ℕ) (gone : List (JoinedPass E)) (histories : List (List E)) (vs : List (View B E)) (id : ℕ) (v w : View B E)
+  pub First-kept : (passes : ℕ) (gone : List (JoinedPass E)) (histories : List (List E)) (vs : List (View B E)) (id : ℕ) (v w : View B E)
       → get_elem? vs id ≡ some v
-      → w.number ≡ v.number → w.passes ≡ v.passes → w.joined ≡ v.joined → w.shown ≡ v.shown → First made gone histories vs
-      → First made gone histories (set vs id w)
-  First-kept made gone histories vs id v w at n p j h f = dite (ℕ_discrete 0 id)
+      → w.number ≡ v.number → w.passes ≡ v.passes → w.joined ≡ v.joined → w.joined_seen ≡ v.joined_seen → First passes gone histories vs
+      → First passes gone histories (set vs id w)
+  First-kept passes gone histories vs id v w at n p j h f = dite (ℕ_discrete 0 id)
       (λ e. let is = same_at vs 0 id f.0 v f.1 at e in (
         w,
         subst (λ (i : ℕ). get_elem? (set vs id w) i ≡ some w) (sym e) (set_here vs id w (inside vs id v at)),
         n ∙ (sym (ap (λ (u : View B E). u.number) is) ∙ f.2),
         p ∙ (sym (ap (λ (u : View B E). u.passes) is) ∙ f.3),
         j ∙ (sym (ap (λ (u : View B E). u.joined) is) ∙ f.4),
-        h ∙ (sym (ap (λ (u : View B E). u.shown) is) ∙ f.5),
+        h ∙ (sym (ap (λ (u : View B E). u.joined_seen) is) ∙ f.5),
       ))
       (λ ne. (f.0, set_else vs id 0 w ne ∙ f.1, f.2, f.3, f.4, f.5))
 
 module _ {B E : Type 0} (by : E → ℕ) where
   -- the history grows by entries of one pass
-  pub Numbers-grown : (b : B) (turns made : ℕ) (log es : List E) (gone : List (JoinedPass E)) (vs : List (View B E)) (id : ℕ) (v w : View B E)
+  pub Numbers-grown : (b : B) (turns passes : ℕ) (log es : List E) (gone : List (JoinedPass E)) (vs : List (View B E)) (id : ℕ) (v w : View B E)
       → get_elem? vs id ≡ some v → 0 < v.number
       → w.number ≡ v.number → w.base ≡ v.base → w.turns ≡ v.turns → 0 < w.stands → w.own ≡ own_of by v.number (log ++ es)
       → ((k : ℕ) → k ≢ v.number → own_of by k es ≡ [])
-      → Numbers by b turns made log gone vs → Numbers by b turns made (log ++ es) gone (set vs id w)
-  Numbers-grown b turns made log es gone vs id v w at pos n bs ts st ow quiet r =
+      → Numbers by b turns passes log gone vs → Numbers by b turns passes (log ++ es) gone (set vs id w)
+  Numbers-grown b turns passes log es gone vs id v w at pos n bs ts st ow quiet r =
       let k = r.own id v at pos in
       let below = k.3 in
       let pos' : 0 < w.number = omega arith in
       record {
-        own = after (λ i (u : View B E). 0 < u.number → Knows by b turns made (log ++ es) u) vs id w
+        own = after (λ i (u : View B E). 0 < u.number → Knows by b turns passes (log ++ es) u) vs id w
             (λ _. (bs ∙ k.0, ts ∙ k.1, st, omega arith, ow ∙ ap (λ (i : ℕ). own_of by i (log ++ es)) (sym n)))
             (λ j u other there pos_u. let q = r.own j u there pos_u in (
               q.0,
@@ -72,21 +72,21 @@ module _ {B E : Type 0} (by : E → ℕ) where
       }
 
   -- a view changes, and the history does not
-  pub Numbers-kept : (b : B) (turns made : ℕ) (log : List E) (gone : List (JoinedPass E)) (vs : List (View B E)) (id : ℕ) (v w : View B E)
+  pub Numbers-kept : (b : B) (turns passes : ℕ) (log : List E) (gone : List (JoinedPass E)) (vs : List (View B E)) (id : ℕ) (v w : View B E)
       → get_elem? vs id ≡ some v → 0 < v.number
       → w.number ≡ v.number → w.base ≡ v.base → w.turns ≡ v.turns → 0 < w.stands → w.own ≡ v.own
-      → Numbers by b turns made log gone vs → Numbers by b turns made log gone (set vs id w)
-  Numbers-kept b turns made log gone vs id v w at pos n bs ts st ow r =
-      subst (λ (l : List E). Numbers by b turns made l gone (set vs id w)) (append-nil log)
-      (Numbers-grown b turns made log [] gone vs id v w at pos n bs ts st
+      → Numbers by b turns passes log gone vs → Numbers by b turns passes log gone (set vs id w)
+  Numbers-kept b turns passes log gone vs id v w at pos n bs ts st ow r =
+      subst (λ (l : List E). Numbers by b turns passes l gone (set vs id w)) (append-nil log)
+      (Numbers-grown b turns passes log [] gone vs id v w at pos n bs ts st
       (ow ∙ ((r.own id v at pos).4 ∙ ap (own_of by v.number) (sym (append-nil log)))) (λ k _. refl) r)
 
   -- one more pass is made
-  pub Numbers-longer : (b : B) (turns made : ℕ) (log : List E) (gone : List (JoinedPass E)) (vs : List (View B E)) (w : View B E)
-      → w.number ≡ made + 1 → w.base ≡ Some b → w.turns ≡ turns → 0 < w.stands → w.own ≡ []
-      → Numbers by b turns made log gone vs → Numbers by b turns (made + 1) log gone (vs ++ w ∷ [])
-  Numbers-longer b turns made log gone vs w n bs ts st ow r = record {
-    own = after_end (λ i (u : View B E). 0 < u.number → Knows by b turns (made + 1) log u) vs w
+  pub Numbers-longer : (b : B) (turns passes : ℕ) (log : List E) (gone : List (JoinedPass E)) (vs : List (View B E)) (w : View B E)
+      → w.number ≡ passes + 1 → w.base ≡ Some b → w.turns ≡ turns → 0 < w.stands → w.own ≡ []
+      → Numbers by b turns passes log gone vs → Numbers by b turns (passes + 1) log gone (vs ++ w ∷ [])
+  Numbers-longer b turns passes log gone vs w n bs ts st ow r = record {
+    own = after_end (λ i (u : View B E). 0 < u.number → Knows by b turns (passes + 1) log u) vs w
         (λ _. (bs, ts, st, omega arith, ow ∙ sym (r.strange w.number (inr (omega arith)))))
         (λ j u there p. let q = r.own j u there p in let a = q.3 in (q.0, q.1, q.2, omega arith, q.4));
     kept = λ left am. let q = r.kept left am in let a = q.1 in (
@@ -106,13 +106,13 @@ module _ {B E : Type 0} (by : E → ℕ) where
   }
 
   -- a pass is joined away
-  pub Numbers-left : (b : B) (turns made : ℕ) (log : List E) (gone : List (JoinedPass E)) (vs : List (View B E)) (id : ℕ) (w x : View B E)
+  pub Numbers-left : (b : B) (turns passes : ℕ) (log : List E) (gone : List (JoinedPass E)) (vs : List (View B E)) (id : ℕ) (w x : View B E)
       → get_elem? vs id ≡ some w → 0 < w.number → x.number ≡ 0
-      → Numbers by b turns made log gone vs → Numbers by b turns made log (gone ++ record { number = w.number; own = w.own } ∷ [])
+      → Numbers by b turns passes log gone vs → Numbers by b turns passes log (gone ++ record { number = w.number; own = w.own } ∷ [])
       (set vs id x)
-  Numbers-left b turns made log gone vs id w x at pos zero_x r =
+  Numbers-left b turns passes log gone vs id w x at pos zero_x r =
       let k = r.own id w at pos in record {
-        own = after (λ i (u : View B E). 0 < u.number → Knows by b turns made log u) vs id x (λ p. absurd (omega arith))
+        own = after (λ i (u : View B E). 0 < u.number → Knows by b turns passes log u) vs id x (λ p. absurd (omega arith))
             (λ j u o there p. r.own j u there p);
         kept = λ left am. ⊎_elim
             (λ old. let q = r.kept left old in let a = q.0 in (
@@ -122,7 +122,7 @@ module _ {B E : Type 0} (by : E → ℕ) where
               after (λ i (u : View B E). u.number ≢ left.number) vs id x (λ e. absurd (omega arith))
                   (λ j u o there. q.3 j u there),
             ))
-            (λ new. ⊎_elim (λ e. subst (λ (left : JoinedPass E). Keeps by made log (set vs id x) left) e (
+            (λ new. ⊎_elim (λ e. subst (λ (left : JoinedPass E). Keeps by passes log (set vs id x) left) e (
               pos,
               k.3,
               k.4,

@@ -17,7 +17,7 @@ use Rattle.turn_lock.specs.declared.view.View.{View}
 use Rattle.turn_lock.specs.declared.view.JoinedPass.{JoinedPass}
 use Rattle.turn_lock.specs.Histories.{StartsWith, own_of, IsOneOf}
 use Rattle.turn_lock.specs.Turns.{Tickets, HasTicket, Numbers, Slot, Turned}
-use Rattle.turn_lock.specs.Steps.{Drew, Came, Ended, Grew, first_view, one_more, newcomer, joined_with, spent_view, ended_view}
+use Rattle.turn_lock.specs.Steps.{Drew, Came, Ended, Grew, first_view, one_more, newcomer, joined_with, joined_away, ended_view}
 use Rattle.turn_lock.proofs.ValueLemmas.{value_at}
 use Rattle.turn_lock.proofs.ViewLemmas.{inside, same_at, after, after_end, only, total_two}
 use Rattle.turn_lock.proofs.HistoryLemmas.{starts_trans, starts_itself, longer_either, among_append}
@@ -67,7 +67,7 @@ module _ {V B E : Type 0} (base_of : V → B) (history_of : V → List E) (legal
   opens b turns value few based new lawful =
       let w : W = first_view b turns in record {
         log = [];
-        made = 1;
+        passes = 1;
         gone = [];
         histories = [];
         first = (w, refl, refl, refl, refl, refl);
@@ -78,7 +78,7 @@ module _ {V B E : Type 0} (base_of : V → B) (history_of : V → List E) (legal
         slot = inl (value, refl, based, new, only (λ i (v : W). v.mine ≡ false) w refl);
         is_legal = subst (legal b) new lawful;
         seen = only (λ i (v : W). StartsWith [] v.seen) w (starts_itself []);
-        shown = λ h am. absurd am;
+        joined_seen = λ h am. absurd am;
         numbers = Numbers-first by b turns w refl refl refl (omega arith) refl;
       }
 
@@ -90,7 +90,7 @@ module _ {V B E : Type 0} (base_of : V → B) (history_of : V → List E) (legal
   draws b turns id m pos free idle left s r one at small =
       let n : ℕ = get_or s.words 0 0 in
       let w : W = record m.0 { drawn = m.0.drawn + 1; ticket = Some n } in
-      let fits = few_drawn turns r.made n s.views r.counts in
+      let fits = few_drawn turns r.passes n s.views r.counts in
       let next : (n + 1) % 2 ^ 64 ≡ n + 1 = mod-eq_of_lt (omega arith) in
       let ws : List ℕ = set s.words 0 ((n + 1) % 2 ^ 64) in
       let two = r.words in
@@ -102,14 +102,14 @@ module _ {V B E : Type 0} (base_of : V → B) (history_of : V → List E) (legal
         tt,
         record {
           log = r.log;
-          made = r.made;
+          passes = r.passes;
           gone = r.gone;
           histories = r.histories;
-          first = First-kept r.made r.gone r.histories s.views id m.0 w at refl refl refl refl r.first;
+          first = First-kept r.passes r.gone r.histories s.views id m.0 w at refl refl refl refl r.first;
           words = length-set s.words 0 ((n + 1) % 2 ^ 64) ∙ r.words;
           tickets = subst (λ (z : ℕ × ℕ). Tickets z.0 z.1 (set s.views id w)) (λ i. (sym second i, sym first i))
               (Tickets-drawn (get_or s.words 1 0) n s.views id m.0 w at free refl r.tickets);
-          counts = Counts-set turns r.made n (get_or ws 0 0) 1 s.views id m.0 w at first refl refl
+          counts = Counts-set turns r.passes n (get_or ws 0 0) 1 s.views id m.0 w at first refl refl
               (subst (λ (k : ℕ). m.0.drawn + 1 ≤ k * m.0.stands) knows.1 (omega (arith, left))) r.counts;
           turn = subst (λ (k : ℕ). (i : ℕ) (v : W) → get_elem? (set s.views id w) i ≡ some v → HasTicket k v) (sym second)
               (after (λ i (v : W). HasTicket (get_or s.words 1 0) v) s.views id w (λ e. cc (sym idle ∙ e))
@@ -117,8 +117,8 @@ module _ {V B E : Type 0} (base_of : V → B) (history_of : V → List E) (legal
           slot = Slot-kept b r.log s.homes s.views id m.0 w at idle idle r.slot;
           is_legal = r.is_legal;
           seen = after (λ i (v : W). StartsWith r.log v.seen) s.views id w (r.seen id m.0 at) (λ j v other there. r.seen j v there);
-          shown = r.shown;
-          numbers = Numbers-kept by b turns r.made r.log r.gone s.views id m.0 w at pos refl refl refl knows.2 refl r.numbers;
+          joined_seen = r.joined_seen;
+          numbers = Numbers-kept by b turns r.passes r.log r.gone s.views id m.0 w at pos refl refl refl knows.2 refl r.numbers;
         },
         (refl, refl),
       )
@@ -141,20 +141,20 @@ module _ {V B E : Type 0} (base_of : V → B) (history_of : V → List E) (legal
       subst (λ (ws : List ℕ). Rule b turns record { words = ws; homes = set s.homes 0 none; views = set s.views id w })
       (sym (set-get_or s.words 1 0)) record {
         log = r.log;
-        made = r.made;
+        passes = r.passes;
         gone = r.gone;
         histories = r.histories;
-        first = First-kept r.made r.gone r.histories s.views id m.0 w at refl refl refl refl r.first;
+        first = First-kept r.passes r.gone r.histories s.views id m.0 w at refl refl refl refl r.first;
         words = r.words;
         tickets = Tickets-kept (get_or s.words 1 0) n s.views id m.0 w at refl r.tickets;
-        counts = Counts-set turns r.made n n 0 s.views id m.0 w at (omega arith) (omega arith) refl (omega (arith, most)) r.counts;
+        counts = Counts-set turns r.passes n n 0 s.views id m.0 w at (omega arith) (omega arith) refl (omega (arith, most)) r.counts;
         turn = after (λ i (v : W). HasTicket (get_or s.words 1 0) v) s.views id w (λ _. (pos, now)) (λ j v other there. r.turn j v there);
         slot = inr (ap (λ (h : List _). set h 0 none) home, id, w, set_here s.views id w (inside s.views id m.0 at), refl, log);
         is_legal = r.is_legal;
         seen = after (λ i (v : W). StartsWith r.log v.seen) s.views id w ([], sym log ∙ sym (append-nil (history_of value)))
             (λ j v other there. r.seen j v there);
-        shown = r.shown;
-        numbers = Numbers-kept by b turns r.made r.log r.gone s.views id m.0 w at pos refl refl refl
+        joined_seen = r.joined_seen;
+        numbers = Numbers-kept by b turns r.passes r.log r.gone s.views id m.0 w at pos refl refl refl
             (r.numbers.own id m.0 at pos).2 refl r.numbers;
       }
 
@@ -227,7 +227,7 @@ module _ {V B E : Type 0} (base_of : V → B) (history_of : V → List E) (legal
       let now : m.0.ticket ≡ Some n = (r.turn id m.0 at mine).1 in
       let knows = r.numbers.own id m.0 at pos in
       let is_base : base_of value ≡ b = same_some (base_of value) b (sym based ∙ knows.0) in
-      let few = few_drawn turns r.made (get_or s.words 0 0) s.views r.counts in
+      let few = few_drawn turns r.passes (get_or s.words 0 0) s.views r.counts in
       let below = (r.tickets.held id m.0 n at now).1 in
       let most = r.counts.most id m.0 at in
       let next : (n + 1) % 2 ^ 64 ≡ n + 1 = mod-eq_of_lt (omega arith) in
@@ -244,14 +244,14 @@ module _ {V B E : Type 0} (base_of : V → B) (history_of : V → List E) (legal
         tt,
         subst (λ (cs : List (ℕ × V)). Rule b turns (stepped s 1 ((n + 1) % 2 ^ 64) id cs w gives)) (sym holds) record {
           log = log;
-          made = r.made;
+          passes = r.passes;
           gone = r.gone;
           histories = r.histories;
-          first = First-kept r.made r.gone r.histories s.views id m.0 w at refl refl refl refl r.first;
+          first = First-kept r.passes r.gone r.histories s.views id m.0 w at refl refl refl refl r.first;
           words = length-set s.words 1 ((n + 1) % 2 ^ 64) ∙ r.words;
           tickets = subst (λ (z : ℕ × ℕ). Tickets z.0 z.1 (set s.views id w)) (λ i. (sym second i, sym first i))
               (Tickets-ended n (get_or s.words 0 0) s.views id m.0 w at now refl r.tickets);
-          counts = Counts-set turns r.made (get_or s.words 0 0) (get_or ws 0 0) 0 s.views id m.0 w at (omega (arith, first))
+          counts = Counts-set turns r.passes (get_or s.words 0 0) (get_or ws 0 0) 0 s.views id m.0 w at (omega (arith, first))
               (omega arith) refl (omega (arith, most)) r.counts;
           turn = after (λ i (v : W). HasTicket (get_or ws 1 0) v) s.views id w (λ e. cc e)
               (λ j v other there e. cc (sym (alone j v other there) ∙ e));
@@ -265,9 +265,9 @@ module _ {V B E : Type 0} (base_of : V → B) (history_of : V → List E) (legal
           is_legal = subst (λ b. legal b log) is_base lawful;
           seen = after (λ i (v : W). StartsWith log v.seen) s.views id w (starts_itself log)
               (λ j v other there. starts_trans v.seen r.log log (es, is) (r.seen j v there));
-          shown = λ h am. starts_trans h r.log log (es, is) (r.shown h am);
-          numbers = subst (λ (l : List E). Numbers by b turns r.made l r.gone (set s.views id w)) (sym is)
-              (Numbers-grown by b turns r.made r.log es r.gone s.views id m.0 w at pos refl refl refl knows.2
+          joined_seen = λ h am. starts_trans h r.log log (es, is) (r.joined_seen h am);
+          numbers = subst (λ (l : List E). Numbers by b turns r.passes l r.gone (set s.views id w)) (sym is)
+              (Numbers-grown by b turns r.passes r.log es r.gone s.views id m.0 w at pos refl refl refl knows.2
               (ap (own_of by m.0.number) is) grew.2 r.numbers);
         },
         λ x there. (
@@ -280,13 +280,13 @@ module _ {V B E : Type 0} (base_of : V → B) (history_of : V → List E) (legal
 
   -- the view of pass 1 stands at 0
   one_is : (b : B) (turns : ℕ) (s : S) (r : Rule b turns s) (id : ℕ) (v : W) → get_elem? s.views id ≡ some v → v.number ≡ 1
-      → (id ≡ 0) × (v.passes ≡ r.made) × (v.joined ≡ r.gone) × (v.shown ≡ r.histories)
+      → (id ≡ 0) × (v.passes ≡ r.passes) × (v.joined ≡ r.gone) × (v.joined_seen ≡ r.histories)
   one_is b turns s r id v at is =
       let f = r.first in
       let pos : 0 < v.number = omega arith in
       let here : id ≡ 0 = r.numbers.differ id 0 v f.0 at f.1 pos (is ∙ sym f.2) in
       let same : v ≡ f.0 = same_at s.views id 0 v f.0 at f.1 here in
-      (here, ap (λ (u : W). u.passes) same ∙ f.3, ap (λ (u : W). u.joined) same ∙ f.4, ap (λ (u : W). u.shown) same ∙ f.5)
+      (here, ap (λ (u : W). u.passes) same ∙ f.3, ap (λ (u : W). u.joined) same ∙ f.4, ap (λ (u : W). u.joined_seen) same ∙ f.5)
 
   pub splits : (b : B) (turns id : ℕ) (v : W) → v.number ≡ 1 → v.mine ≡ false → v.passes < 64
       → Splits (Rule b turns) id v (one_more v) (newcomer v)
@@ -296,7 +296,7 @@ module _ {V B E : Type 0} (base_of : V → B) (history_of : V → List E) (legal
       let pos : 0 < v.number = omega arith in
       let k = r.numbers.own id v at pos in
       let at_one = one_is b turns s r id v at is in
-      let made : v.passes ≡ r.made = at_one.1 in
+      let passes : v.passes ≡ r.passes = at_one.1 in
       let most = r.counts.most id v at in
       let ended : ℕ = get_or s.words 1 0 in
       let drawn : ℕ = get_or s.words 0 0 in
@@ -305,33 +305,33 @@ module _ {V B E : Type 0} (base_of : V → B) (history_of : V → List E) (legal
       (set_here s.views id w (inside s.views id v at)) in
       record {
         log = r.log;
-        made = r.made + 1;
+        passes = r.passes + 1;
         gone = r.gone;
         histories = r.histories;
-        first = (w, at_longer vs (x ∷ []) 0 w here, is, ap (λ (n : ℕ). n + 1) made, at_one.2, at_one.3);
+        first = (w, at_longer vs (x ∷ []) 0 w here, is, ap (λ (n : ℕ). n + 1) passes, at_one.2, at_one.3);
         words = r.words;
         tickets = Tickets-longer ended drawn vs x refl (Tickets-kept ended drawn s.views id v w at refl r.tickets);
-        counts = Counts-longer turns r.made drawn vs x refl refl (omega arith)
-            (Counts-set turns r.made drawn drawn 0 s.views id v w at (omega arith) (omega arith) refl (omega (arith, most)) r.counts);
+        counts = Counts-longer turns r.passes drawn vs x refl refl (omega arith)
+            (Counts-set turns r.passes drawn drawn 0 s.views id v w at (omega arith) (omega arith) refl (omega (arith, most)) r.counts);
         turn = after_end (λ i (u : W). HasTicket ended u) vs x (λ e. cc e)
             (after (λ i (u : W). HasTicket ended u) s.views id w (λ e. cc (sym idle ∙ e)) (λ j u other there. r.turn j u there));
         slot = Slot-longer b r.log s.homes vs x refl (Slot-kept b r.log s.homes s.views id v w at idle idle r.slot);
         is_legal = r.is_legal;
         seen = after_end (λ i (u : W). StartsWith r.log u.seen) vs x (r.seen id v at)
             (after (λ i (u : W). StartsWith r.log u.seen) s.views id w (r.seen id v at) (λ j u other there. r.seen j u there));
-        shown = r.shown;
-        numbers = Numbers-longer by b turns r.made r.log r.gone vs x (ap (λ (n : ℕ). n + 1) made) k.0 k.1 (omega arith) refl
-            (Numbers-kept by b turns r.made r.log r.gone s.views id v w at pos refl refl refl k.2 refl r.numbers);
+        joined_seen = r.joined_seen;
+        numbers = Numbers-longer by b turns r.passes r.log r.gone vs x (ap (λ (n : ℕ). n + 1) passes) k.0 k.1 (omega arith) refl
+            (Numbers-kept by b turns r.passes r.log r.gone s.views id v w at pos refl refl refl k.2 refl r.numbers);
       }
 
   -- ---- a pass at rest is joined to pass 1, which is at rest too
 
   pub joins : (b : B) (turns id : ℕ) (v : W) (other : ℕ) (w : W) → v.number ≡ 1 → v.mine ≡ false → 0 < w.number → w.ticket ≡ None
       → w.mine ≡ false
-      → Joins (Rule b turns) id v other w (joined_with v w) spent_view
+      → Joins (Rule b turns) id v other w (joined_with v w) joined_away
   joins b turns id v other w is idle_v pos_w free idle_w s r at ne there_w =
       let v' : W = joined_with v w in
-      let x : W = spent_view in
+      let x : W = joined_away in
       let vs : List W = set s.views id v' in
       let at_w : get_elem? s.views other ≡ some w = sym (set_else s.views id other v' ne) ∙ there_w in
       let pos : 0 < v.number = omega arith in
@@ -344,7 +344,7 @@ module _ {V B E : Type 0} (base_of : V → B) (history_of : V → List E) (legal
       let left : JoinedPass E = record { number = w.number; own = w.own } in
       record {
         log = r.log;
-        made = r.made;
+        passes = r.passes;
         gone = r.gone ++ left ∷ [];
         histories = r.histories ++ v.seen ∷ w.seen ∷ [];
         first = (
@@ -357,7 +357,7 @@ module _ {V B E : Type 0} (base_of : V → B) (history_of : V → List E) (legal
         );
         words = r.words;
         tickets = Tickets-kept ended drawn vs other w x there_w (sym free) (Tickets-kept ended drawn s.views id v v' at refl r.tickets);
-        counts = Counts-joined turns r.made drawn s.views id v v' other w x ne at at_w there_w refl refl refl refl r.counts;
+        counts = Counts-joined turns r.passes drawn s.views id v v' other w x ne at at_w there_w refl refl refl refl r.counts;
         turn = after (λ i (u : W). HasTicket ended u) vs other x (λ e. cc e)
             (λ j u o there. after (λ i (u : W). HasTicket ended u) s.views id v' (λ e. cc (sym idle_v ∙ e))
             (λ j u o2 there. r.turn j u there) j u there);
@@ -368,12 +368,12 @@ module _ {V B E : Type 0} (base_of : V → B) (history_of : V → List E) (legal
             (λ j u o there. after (λ i (u : W). StartsWith r.log u.seen) s.views id v'
             (longer_either (StartsWith r.log) v.seen w.seen (r.seen id v at) (r.seen other w at_w))
             (λ j u o2 there. r.seen j u there) j u there);
-        shown = λ h am. ⊎_elim (λ old. r.shown h old)
+        joined_seen = λ h am. ⊎_elim (λ old. r.joined_seen h old)
             (λ new. ⊎_elim (λ e. subst (StartsWith r.log) e (r.seen id v at))
             (λ more. ⊎_elim (λ e. subst (StartsWith r.log) e (r.seen other w at_w)) (λ no. absurd no) more) new)
             (among_append r.histories (v.seen ∷ w.seen ∷ []) h am);
-        numbers = Numbers-left by b turns r.made r.log r.gone vs other w x there_w pos_w refl
-            (Numbers-kept by b turns r.made r.log r.gone s.views id v v' at pos refl refl refl (omega arith) refl r.numbers);
+        numbers = Numbers-left by b turns r.passes r.log r.gone vs other w x there_w pos_w refl
+            (Numbers-kept by b turns r.passes r.log r.gone s.views id v v' at pos refl refl refl (omega arith) refl r.numbers);
       }
 
   -- ---- the last state, where the view of pass 1 stands for all
@@ -381,7 +381,7 @@ module _ {V B E : Type 0} (base_of : V → B) (history_of : V → List E) (legal
   pub closes : (b : B) (turns id : ℕ) (v : W) (s : S) → Rule b turns s → get_elem? s.views id ≡ some v → v.number ≡ 1 → v.stands ≡ v.passes
       → v.mine ≡ false
       → (value : V) × (s.homes ≡ some value ∷ []) × (base_of value ≡ b) × legal b (history_of value) × StartsWith (history_of value) v.seen
-      × ((h : List E) → IsOneOf v.shown h → StartsWith (history_of value) h)
+      × ((h : List E) → IsOneOf v.joined_seen h → StartsWith (history_of value) h)
       × (v.own ≡ own_of by 1 (history_of value))
       × ((left : JoinedPass E) → IsOneOf v.joined left → left.own ≡ own_of by left.number (history_of value))
       × ((n : ℕ) → (n ≡ 0) ⊎ (v.passes < n) → own_of by n (history_of value) ≡ [])
@@ -389,7 +389,7 @@ module _ {V B E : Type 0} (base_of : V → B) (history_of : V → List E) (legal
       let pos : 0 < v.number = omega arith in
       let k = r.numbers.own id v at pos in
       let at_one = one_is b turns s r id v at is in
-      let made = at_one.1 in
+      let passes = at_one.1 in
       let stand = r.counts.stand in
       ⊎_elim
       (λ p.
@@ -399,7 +399,7 @@ module _ {V B E : Type 0} (base_of : V → B) (history_of : V → List E) (legal
         p.2,
         subst (legal b) (sym same) r.is_legal,
         subst (λ (l : List E). StartsWith l v.seen) (sym same) (r.seen id v at),
-        (λ h am. subst (λ (l : List E). StartsWith l h) (sym same) (r.shown h (subst (λ l. IsOneOf l h) at_one.3 am))),
+        (λ h am. subst (λ (l : List E). StartsWith l h) (sym same) (r.joined_seen h (subst (λ l. IsOneOf l h) at_one.3 am))),
         k.4 ∙ (ap (λ (n : ℕ). own_of by n r.log) is ∙ ap (own_of by 1) (sym same)),
         (λ left am. (r.numbers.kept left (subst (λ l. IsOneOf l left) at_one.2 am)).2 ∙ ap (own_of by left.number) (sym same)),
         (λ n h. ap (own_of by n) same ∙ r.numbers.strange n (⊎_elim (λ z. inl z) (λ z. inr (omega arith)) h)),

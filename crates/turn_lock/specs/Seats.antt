@@ -62,7 +62,7 @@ module _ {B E : Type 0} where
     drawn = v.drawn + p.made;
     stands = v.stands + 1;
     joined = v.joined ++ record { number = p.number; own = p.own } ∷ [];
-    shown = v.shown ++ v.seen ∷ p.seen ∷ [];
+    joined_seen = v.joined_seen ++ v.seen ∷ p.seen ∷ [];
   }
 
   -- and after all of these

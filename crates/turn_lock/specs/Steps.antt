@@ -25,7 +25,7 @@ module _ {B E : Type 0} where
     stands = 1;
     passes = 1;
     joined = [];
-    shown = [];
+    joined_seen = [];
   }
 
   -- pass 1, as one more pass is made
@@ -46,7 +46,7 @@ module _ {B E : Type 0} where
     stands = 1;
     passes = 0;
     joined = [];
-    shown = [];
+    joined_seen = [];
   }
 
   -- a pass after its turn, with this history
@@ -60,12 +60,12 @@ module _ {B E : Type 0} where
     drawn = v.drawn + w.drawn;
     stands = v.stands + w.stands;
     joined = v.joined ++ record { number = w.number; own = w.own } ∷ [];
-    shown = v.shown ++ v.seen ∷ w.seen ∷ [];
+    joined_seen = v.joined_seen ++ v.seen ∷ w.seen ∷ [];
   }
 
   -- what is left of the other
-  abbrev pub spent_view : View B E
-  spent_view = record {
+  abbrev pub joined_away : View B E
+  joined_away = record {
     number = 0;
     base = None;
     turns = 0;
@@ -77,7 +77,7 @@ module _ {B E : Type 0} where
     stands = 0;
     passes = 0;
     joined = [];
-    shown = [];
+    joined_seen = [];
   }
 
 -- the history goes on from an earlier one by entries of the pass n alone, or not at all
@@ -94,13 +94,13 @@ module _ {V B E : Type 0} where
 module _ {V B E : Type 0} (base_of : V → B) (history_of : V → List E) (legal : B → List E → Type 0) (by : E → ℕ) where
   -- what a pass knows of the value as its turn has come: it has the lock's base and a legal history, which goes on from
   -- what the pass had seen and has its own entries. The pass sees this history now
-  abbrev pub IsShown : View B E → V → View B E → Type 0
-  IsShown v value w = (v.base ≡ Some (base_of value)) × legal (base_of value) (history_of value) × StartsWith (history_of value) v.seen
+  abbrev pub SeesValue : View B E → V → View B E → Type 0
+  SeesValue v value w = (v.base ≡ Some (base_of value)) × legal (base_of value) (history_of value) × StartsWith (history_of value) v.seen
       × (v.own ≡ own_of by v.number (history_of value)) × (w ≡ record v { mine = true; seen = history_of value })
 
   -- the turn is the pass's, and it holds the slot with the value
   abbrev pub HasTurn : Me V (View B E) → Me V (View B E) → Type 0
-  HasTurn m m' = (value : V) × (m'.1 ≡ (0, value) ∷ m.1) × IsShown m.0 value m'.0
+  HasTurn m m' = (value : V) × (m'.1 ≡ (0, value) ∷ m.1) × SeesValue m.0 value m'.0
 
   -- the turn has come if the number found is the ticket
   abbrev pub Came : Step V → Me V (View B E) → ℕ → Me V (View B E) → Type 0

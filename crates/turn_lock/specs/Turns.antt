@@ -26,42 +26,42 @@ module _ {B E : Type 0} where
     pub held : (i : ℕ) (v : View B E) (t : ℕ) → Sits views i v → v.ticket ≡ Some t → (ended ≤ t) × (t < drawn)
 
   -- how many tickets were drawn, and how many can be
-  pub record Counts (turns made drawn : ℕ) (views : List (View B E)) : Type 0 where
+  pub record Counts (turns passes drawn : ℕ) (views : List (View B E)) : Type 0 where
     -- word 0 is the sum of the tickets drawn in all views
     pub sum : total (λ v. v.drawn) views ≡ drawn
     -- each view has drawn at most `turns` for each pass that it stands for
     pub most : (i : ℕ) (v : View B E) → Sits views i v → v.drawn ≤ turns * v.stands
     -- together the views stand for the passes made
-    pub stand : total (λ v. v.stands) views ≡ made
-    pub few : (made ≤ 64) × (turns ≤ MAX_TURNS)
+    pub stand : total (λ v. v.stands) views ≡ passes
+    pub few : (passes ≤ 64) × (turns ≤ MAX_TURNS)
 
   -- the view of pass 1 has the number of passes made, the passes joined to it, and what these had seen
   abbrev pub First : ℕ → List (JoinedPass E) → List (List E) → List (View B E) → Type 0
-  First made gone histories views = (v : View B E) × Sits views 0 v × (v.number ≡ 1) × (v.passes ≡ made) × (v.joined ≡ gone)
-      × (v.shown ≡ histories)
+  First passes gone histories views = (v : View B E) × Sits views 0 v × (v.number ≡ 1) × (v.passes ≡ passes) × (v.joined ≡ gone)
+      × (v.joined_seen ≡ histories)
 
   -- a view whose turn is its own has the ticket that word 1 shows
   abbrev pub HasTicket : ℕ → View B E → Type 0
   HasTicket ended v = v.mine ≡ true → (0 < v.number) × (v.ticket ≡ Some ended)
 
 module _ {B E : Type 0} (by : E → ℕ) where
-  -- what a view that is not spent knows: the base, the turns, and the entries by its number
+  -- what a view that was not joined away knows: the base, the turns, and the entries by its number
   abbrev pub Knows : B → ℕ → ℕ → List E → View B E → Type 0
-  Knows b turns made log v = (v.base ≡ Some b) × (v.turns ≡ turns) × (0 < v.stands) × (v.number ≤ made) × (v.own ≡ own_of by v.number log)
+  Knows b turns passes log v = (v.base ≡ Some b) × (v.turns ≡ turns) × (0 < v.stands) × (v.number ≤ passes) × (v.own ≡ own_of by v.number log)
 
   -- what is kept of a pass that was joined away: the entries by its number, which no other view has
   abbrev pub Keeps : ℕ → List E → List (View B E) → JoinedPass E → Type 0
-  Keeps made log views pass = (0 < pass.number) × (pass.number ≤ made) × (pass.own ≡ own_of by pass.number log)
+  Keeps passes log views pass = (0 < pass.number) × (pass.number ≤ passes) × (pass.own ≡ own_of by pass.number log)
       × ((i : ℕ) (v : View B E) → Sits views i v → v.number ≢ pass.number)
 
   -- whose entries are in the history
-  pub record Numbers (b : B) (turns made : ℕ) (log : List E) (gone : List (JoinedPass E)) (views : List (View B E)) : Type 0 where
-    pub own : (i : ℕ) (v : View B E) → Sits views i v → 0 < v.number → Knows b turns made log v
-    pub kept : (pass : JoinedPass E) → IsOneOf gone pass → Keeps made log views pass
+  pub record Numbers (b : B) (turns passes : ℕ) (log : List E) (gone : List (JoinedPass E)) (views : List (View B E)) : Type 0 where
+    pub own : (i : ℕ) (v : View B E) → Sits views i v → 0 < v.number → Knows b turns passes log v
+    pub kept : (pass : JoinedPass E) → IsOneOf gone pass → Keeps passes log views pass
     -- numbers differ
     pub differ : (i j : ℕ) (v w : View B E) → Sits views i v → Sits views j w → 0 < v.number → v.number ≡ w.number → i ≡ j
     -- a number that no pass was made with is in no entry
-    pub strange : (n : ℕ) → (n ≡ 0) ⊎ (made < n) → own_of by n log ≡ []
+    pub strange : (n : ℕ) → (n ≡ 0) ⊎ (passes < n) → own_of by n log ≡ []
 
 module _ {V B E : Type 0} (base_of : V → B) (history_of : V → List E) where
   -- At home, the slot has a value of the base with the history. It is out exactly if a view's turn is its own, and what
@@ -77,17 +77,17 @@ module _ {V B E : Type 0} (base_of : V → B) (history_of : V → List E) (legal
   pub record Turned (b : B) (turns : ℕ) (s : State V (View B E)) : Type 0 where
     -- the history, the number of passes made, and what the view of pass 1 keeps of those joined to it
     pub log : List E
-    pub made : ℕ
+    pub passes : ℕ
     pub gone : List (JoinedPass E)
     pub histories : List (List E)
-    pub first : First made gone histories s.views
+    pub first : First passes gone histories s.views
     pub words : length s.words ≡ 2
     pub tickets : Tickets (slice_index s.words 1) (slice_index s.words 0) s.views
-    pub counts : Counts turns made (slice_index s.words 0) s.views
+    pub counts : Counts turns passes (slice_index s.words 0) s.views
     pub turn : (i : ℕ) (v : View B E) → Sits s.views i v → HasTicket (slice_index s.words 1) v
     pub slot : Slot base_of history_of b log s.homes s.views
     pub is_legal : legal b log
     -- what each view has seen is the start of the history
     pub seen : (i : ℕ) (v : View B E) → Sits s.views i v → StartsWith log v.seen
-    pub shown : (h : List E) → IsOneOf histories h → StartsWith log h
-    pub numbers : Numbers by b turns made log gone s.views
+    pub joined_seen : (h : List E) → IsOneOf histories h → StartsWith log h
+    pub numbers : Numbers by b turns passes log gone s.views

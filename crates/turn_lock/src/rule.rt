@@ -79,9 +79,9 @@ pub struct Gathering<V> {
 }
 
 impl<V: Logged> Join<View<V::Base, V::Entry>> for Gathering<V> {
-    ghost use Rattle.turn_lock.specs.Steps.{joined_with, spent_view};
+    ghost use Rattle.turn_lock.specs.Steps.{joined_with, joined_away};
 
     ghost both = { joined_with };
 
-    ghost spent = { spent_view };
+    ghost spent = { joined_away };
 }

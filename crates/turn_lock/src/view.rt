@@ -42,5 +42,5 @@ pub struct View<B, E> {
     pub joined: LinkedList<JoinedPass<E>>,
 
     /// Of pass 1, what it and each pass joined to it had seen.
-    pub shown: LinkedList<LinkedList<E>>,
+    pub joined_seen: LinkedList<LinkedList<E>>,
 }

@@ -1,7 +1,7 @@
 use Rattle.fca_io.specs.Faults.{Rose}
 use Rattle.command_io.specs.Endings.{IsRefusal}
 use Rattle.expert_scripts.specs.Known.{known_form}
-use Rattle.command_io.specs.Known.{implications_read, IsKnownSaidStop}
+use Rattle.command_io.specs.Known.{implications_read, IsImplicationsStop}
 use Rattle.command_io.specs.Readings.{formed, MayRefuse, SameCounts}
 use Rattle.command_io.specs.declared.stop.Origin.TheVariants.{Known}
 use Rattle.command_io.specs.declared.stop.Stop.{Stop}
@@ -24,7 +24,7 @@ returns-in_err-bytes-clause-cause g c =
     let told = g.H.Shelf.tells c.args.shelf.now c.args.file.now in
     let rose = Rose (g.H.Shelf.faults c.args.shelf.now c.args.file.now) (g.H.Shelf.faults c.fetch_file.new.shelf c.args.file.now) in
     let stop = c.in_err-bytes.field-0.0 in
-    err-passed c.from_residual.result stop (IsKnownSaidStop c.args.n told rose) c.from_residual.ensures.1
+    err-passed c.from_residual.result stop (IsImplicationsStop c.args.n told rose) c.from_residual.ensures.1
     (fetch-known_said c.args.n told rose stop c.in_err-bytes.ensures.cause)
 
 pub returns-in_err-bytes-clause-quiet : goal.returns-in_err-bytes-clause-quiet

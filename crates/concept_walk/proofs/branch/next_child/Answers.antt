@@ -3,7 +3,7 @@ use Rattle.std.specs.Prelude.{MatchOption, IfSome}
 use Rattle.fca_model.specs.Sets.{Set}
 use Rattle.fca_model.specs.Context.{Context}
 use Rattle.lectic_concepts.specs.Branches.{branch}
-use Rattle.concept_walk.specs.declared.branch.Child.{Child}
+use Rattle.concept_walk.specs.declared.branch.LargerIntent.{LargerIntent}
 use Rattle.extent_places.proofs.TryLemmas.{branch-between, branch-behind}
 use Rattle.concept_walk.proofs.branch.next_child.Goals as goal
 
@@ -30,11 +30,11 @@ returns-in-Some-met-clause-splits g c =
     let D : Set = c.in-Some-met.child.intent in
     let last = c.in-Some.ensures in
     let splits : branch K A i ≡ branch K A (i + 1) ++ branch K D (i + 1) =
-    subst (λ (o : Option (Child g.row.W)). MatchOption o (branch K A i ≡ branch K A (i + 1))
+    subst (λ (o : Option (LargerIntent g.row.W)). MatchOption o (branch K A i ≡ branch K A (i + 1))
     (λ child. branch K A i ≡ branch K A (i + 1) ++ branch K child.intent (i + 1)))
     c.in-Some-met.is c.in_ok-met.ensures.splits in
     let attribute : c.in-Some-met.child.attribute ≡ i =
-    subst (λ (o : Option (Child g.row.W)). IfSome o (λ child. child.attribute ≡ i)) c.in-Some-met.is c.in_ok-met.ensures.attribute in
+    subst (λ (o : Option (LargerIntent g.row.W)). IfSome o (λ child. child.attribute ≡ i)) c.in-Some-met.is c.in_ok-met.ensures.attribute in
     let behind : branch K A (i + 1) ≡ branch K A c.args.candidates.now.end =
     branch-behind K K A c.args.candidates.now.tries i c.loop-i.place refl c.requires.candidates.tries last.1
     (omega (arith, c.loop-i.invariant.inside, c.requires.candidates.inside)) last.2 ∙ c.loop-i.invariant.none in
@@ -47,7 +47,7 @@ loop-i-preserved g c =
     let A : Set = c.args.node.now.intent.now in
     let last = c.in-Some.ensures in
     let same : branch K A c.in-Some.i ≡ branch K A (c.in-Some.i + 1) =
-    subst (λ (o : Option (Child g.row.W)). MatchOption o (branch K A c.in-Some.i ≡ branch K A (c.in-Some.i + 1))
+    subst (λ (o : Option (LargerIntent g.row.W)). MatchOption o (branch K A c.in-Some.i ≡ branch K A (c.in-Some.i + 1))
     (λ child. branch K A c.in-Some.i ≡ branch K A (c.in-Some.i + 1) ++ branch K child.intent (c.in-Some.i + 1)))
     c.in_default-met.is c.in_ok-met.ensures.splits in
     record {

@@ -11,7 +11,7 @@ use Rattle.fca_model.specs.Invariant.{rows_respect}
 use Rattle.fca_model.specs.Exploration.{Settings, own, is_expert}
 use Rattle.fca_model.proofs.RunLemmas.{expert_range}
 use Rattle.implication_closure.specs.Closing.{HaveWidth}
-use Rattle.explore_state.specs.History.{Opening, History}
+use Rattle.explore_state.specs.History.{Opening, ExploreModel}
 use Rattle.oracle_expert.specs.Oracles.{Recall, no_conflict, untold}
 use Rattle.oracle_expert.specs.Runs.{ends_done}
 use Rattle.oracle_expert.specs.Intents.{HasIntentsOf, are_intents}
@@ -32,7 +32,7 @@ one_width Ds C n some same wide =
     sym (same 0 bare (omega arith)).width ∙ wide 0 bare (omega arith)
 
 -- from the exploration that was handed in to the base of the gate
-based : (h : History) (o : Opening) → o ≡ h.opening → rows_respect h.opening.settings.known h.opening.table.context ≡ true
+based : (h : ExploreModel) (o : Opening) → o ≡ h.opening → rows_respect h.opening.settings.known h.opening.table.context ≡ true
     → rows_respect o.settings.known o.table.context ≡ true
 based h o e respecting = subst (λ (p : Opening). rows_respect p.settings.known p.table.context ≡ true) (sym e) respecting
 

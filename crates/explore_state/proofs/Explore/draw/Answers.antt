@@ -6,7 +6,7 @@ use Rattle.fca_model.specs.declared.TheConstants.{MAX_EXPERTS}
 use Rattle.fca_model.specs.Implications.{Rule}
 use Rattle.fca_model.specs.Invariant.{Among}
 use Rattle.fca_model.specs.Exploration.{reply_to}
-use Rattle.explore_state.specs.History.{Opening, History, Admits, IsStep, state_of, open_of}
+use Rattle.explore_state.specs.History.{Opening, ExploreModel, Admits, IsStep, state_of, open_of}
 use Rattle.exploration_terms.specs.Settings.{settings_of}
 use Rattle.exploration_terms.proofs.RecordedLemmas.{draw_not_recorded}
 use Rattle.explore_state.proofs.CourseLemmas.{draw_is_done, draw_is_open, draw_is_free}
@@ -44,8 +44,8 @@ returns-clause-free c = λ most.
     (λ reply step all.
     let is = step.reply ∙ ap (λ h. reply_to (state_of h) (Draw c.args.e)) (sym c.self.view_is) in
     draw_is_free o i.journal.items i.queue.context i.queue.accepted i.held.items c.self.invariant.kept
-    (subst (λ (h : History). h.opening.settings.holders ≡ MAX_EXPERTS) (sym c.self.view_is) most) c.args.e
-    (subst (λ (h : History). Admits h.opening (Draw c.args.e)) (sym c.self.view_is) c.requires) (sym is ∙ all))
+    (subst (λ (h : ExploreModel). h.opening.settings.holders ≡ MAX_EXPERTS) (sym c.self.view_is) most) c.args.e
+    (subst (λ (h : ExploreModel). Admits h.opening (Draw c.args.e)) (sym c.self.view_is) c.requires) (sym is ∙ all))
     c.apply.ensures.ok
 
 pub returns-clause-spare : goal.returns-clause-spare

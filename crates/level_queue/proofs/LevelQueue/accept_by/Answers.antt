@@ -5,7 +5,7 @@ use Rattle.fca_model.specs.Levels.{HasBelow}
 use Rattle.fca_model.specs.Questions.{open_questions}
 use Rattle.implication_closure.specs.Closing.{RuleList}
 use Rattle.std.specs.List.{list_all, remove}
-use Rattle.level_queue.specs.Queue.{Base, IsKeptQueue}
+use Rattle.level_queue.specs.Queue.{QueueModel, IsKeptQueue}
 use Rattle.level_queue.specs.Rules.{RuleParts}
 use Rattle.next_level.specs.Among.{AllAmong, IsAhead}
 use Rattle.level_queue.proofs.AheadLemmas.{rule_ahead, ahead_all}
@@ -19,7 +19,7 @@ get-question-requires g c = omega (
   arith,
   c.requires,
   ap length (kept_open c.self.invariant.kept),
-  ap (λ (b : Base). length (open_questions b.known b.context b.accepted)) c.self.view_is,
+  ap (λ (b : QueueModel). length (open_questions b.known b.context b.accepted)) c.self.view_is,
 )
 
 pub push-requires-clause-premise : goal.push-requires-clause-premise
@@ -29,7 +29,7 @@ push-requires-clause-premise g c =
       arith,
       c.requires,
       ap length (kept_open c.self.invariant.kept),
-      ap (λ (b : Base). length (open_questions b.known b.context b.accepted)) c.self.view_is,
+      ap (λ (b : QueueModel). length (open_questions b.known b.context b.accepted)) c.self.view_is,
     ) in
     accepted_premise c.self.invariant.kept c.args.i c.get-question.result l c.get-question.ensures ∙ sym c.self.invariant.wide
 
@@ -40,7 +40,7 @@ push-requires-clause-conclusion g c =
       arith,
       c.requires,
       ap length (kept_open c.self.invariant.kept),
-      ap (λ (b : Base). length (open_questions b.known b.context b.accepted)) c.self.view_is,
+      ap (λ (b : QueueModel). length (open_questions b.known b.context b.accepted)) c.self.view_is,
     ) in
     accepted_conclusion c.self.invariant.kept c.args.i c.get-question.result l c.get-question.ensures ∙ sym c.self.invariant.wide
 
@@ -49,7 +49,7 @@ take_out-requires g c = omega (
   arith,
   c.requires,
   ap length (kept_open c.self.invariant.kept),
-  ap (λ (b : Base). length (open_questions b.known b.context b.accepted)) c.self.view_is,
+  ap (λ (b : QueueModel). length (open_questions b.known b.context b.accepted)) c.self.view_is,
 )
 
 pub invariant_of-self-then-as_slice-gt1 : goal.invariant_of-self-then-as_slice-gt1
@@ -61,7 +61,7 @@ invariant_of-self-then-as_slice-gt1 g c =
       arith,
       c.requires,
       ap length (kept_open c.self.invariant.kept),
-      ap (λ (b : Base). length (open_questions b.known b.context b.accepted)) c.self.view_is,
+      ap (λ (b : QueueModel). length (open_questions b.known b.context b.accepted)) c.self.view_is,
     ) in
     let ok = c.in_ok-push.ensures.ok in
     record {
@@ -85,7 +85,7 @@ open_level-requires g c =
       arith,
       c.requires,
       ap length (kept_open c.self.invariant.kept),
-      ap (λ (b : Base). length (open_questions b.known b.context b.accepted)) c.self.view_is,
+      ap (λ (b : QueueModel). length (open_questions b.known b.context b.accepted)) c.self.view_is,
     ) in
     let ok = c.in_ok-push.ensures.ok in
     let last : length a.level.questions ≤ 1 = omega (arith, c.if-as_slice-gt1.false, ap length c.as_slice.ensures) in
@@ -107,12 +107,12 @@ returns-then-as_slice-gt1-clause-ok g c question at =
       arith,
       c.requires,
       ap length (kept_open c.self.invariant.kept),
-      ap (λ (b : Base). length (open_questions b.known b.context b.accepted)) c.self.view_is,
+      ap (λ (b : QueueModel). length (open_questions b.known b.context b.accepted)) c.self.view_is,
     ) in
     accepted_base a.rows a.rules c.push.new.self a.level.questions c.args.self.now c.args.i c.get-question.result question c.self.view_is
     c.in_ok-push.ensures.ok l c.get-question.ensures
     (ap (λ qs. slice_get qs c.args.i) (kept_open c.self.invariant.kept
-    ∙ ap (λ (b : Base). open_questions b.known b.context b.accepted) c.self.view_is) ∙ at)
+    ∙ ap (λ (b : QueueModel). open_questions b.known b.context b.accepted) c.self.view_is) ∙ at)
 
 pub invariant_of-self-in-Ok : goal.invariant_of-self-in-Ok
 invariant_of-self-in-Ok g c =
@@ -123,7 +123,7 @@ invariant_of-self-in-Ok g c =
       arith,
       c.requires,
       ap length (kept_open c.self.invariant.kept),
-      ap (λ (b : Base). length (open_questions b.known b.context b.accepted)) c.self.view_is,
+      ap (λ (b : QueueModel). length (open_questions b.known b.context b.accepted)) c.self.view_is,
     ) in
     let ok = c.in_ok-push.ensures.ok in
     let last : length a.level.questions ≤ 1 = omega (arith, c.if-as_slice-gt1.false, ap length c.as_slice.ensures) in
@@ -151,9 +151,9 @@ returns-in-Ok-clause-ok g c question at =
       arith,
       c.requires,
       ap length (kept_open c.self.invariant.kept),
-      ap (λ (b : Base). length (open_questions b.known b.context b.accepted)) c.self.view_is,
+      ap (λ (b : QueueModel). length (open_questions b.known b.context b.accepted)) c.self.view_is,
     ) in
     accepted_base a.rows a.rules c.push.new.self a.level.questions c.args.self.now c.args.i c.get-question.result question c.self.view_is
     c.in_ok-push.ensures.ok l c.get-question.ensures
     (ap (λ qs. slice_get qs c.args.i) (kept_open c.self.invariant.kept
-    ∙ ap (λ (b : Base). open_questions b.known b.context b.accepted) c.self.view_is) ∙ at)
+    ∙ ap (λ (b : QueueModel). open_questions b.known b.context b.accepted) c.self.view_is) ∙ at)

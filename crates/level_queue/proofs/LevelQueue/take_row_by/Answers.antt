@@ -4,7 +4,7 @@ use Rattle.fca_model.specs.Context.{Context, with_row}
 use Rattle.fca_model.specs.Implications.{holds, respects_all}
 use Rattle.fca_model.specs.Levels.{HasBelow}
 use Rattle.implication_closure.specs.Closing.{RuleList}
-use Rattle.level_queue.specs.Queue.{Base, IsKeptQueue, narrowed, still_open}
+use Rattle.level_queue.specs.Queue.{QueueModel, IsKeptQueue, narrowed, still_open}
 use Rattle.next_level.specs.Among.{AllAmong, IsAhead}
 use Rattle.level_queue.proofs.AheadLemmas.{row_ahead, ahead_all}
 use Rattle.level_queue.proofs.OpenLemmas.{kept_unclosed, row_kept, row_hold, row_below, row_bounded, opened_kept}
@@ -15,7 +15,7 @@ pub invariant_of-self-then-not-closes_all : goal.invariant_of-self-then-not-clos
 invariant_of-self-then-not-closes_all g c =
     let a = c.self.inside in
     let r = c.args.row in
-    let respecting = ap (λ (b : Base). respects_all (b.known ++ b.accepted) r) c.self.view_is ∙ c.requires.respecting in
+    let respecting = ap (λ (b : QueueModel). respects_all (b.known ++ b.accepted) r) c.self.view_is ∙ c.requires.respecting in
     record {
       wide = c.self.invariant.wide ∙ sym (ap (λ (K : Context). K.width) c.in_ok-push.ensures.ok);
       kept = subst (λ (K : Context). IsKeptQueue a.rules.known K a.level.size a.rules.accepted c.narrow.new.self) (sym c.in_ok-push.ensures.ok)
@@ -38,7 +38,7 @@ open_level-requires g c =
     let a = c.self.inside in
     let r = c.args.row in
     let ok = c.in_ok-push.ensures.ok in
-    let respecting = ap (λ (b : Base). respects_all (b.known ++ b.accepted) r) c.self.view_is ∙ c.requires.respecting in
+    let respecting = ap (λ (b : QueueModel). respects_all (b.known ++ b.accepted) r) c.self.view_is ∙ c.requires.respecting in
     let none = settled r a.level.questions (sym (c.closes_all.ensures ∙ ap (settles r) c.as_slice.ensures) ∙ c.if-not-closes_all.false) in
     let below = row_below c.self.invariant.kept r respecting (still_open (map (narrowed r) a.level.questions)) refl none.1 in
     let all = ahead_all a.rules.known a.rules.accepted (with_row a.rows r) a.level.size a.level.ahead.whole a.level.ahead.sets.rows below
@@ -57,7 +57,7 @@ invariant_of-self-in-Ok g c =
     let a = c.self.inside in
     let r = c.args.row in
     let ok = c.in_ok-push.ensures.ok in
-    let respecting = ap (λ (b : Base). respects_all (b.known ++ b.accepted) r) c.self.view_is ∙ c.requires.respecting in
+    let respecting = ap (λ (b : QueueModel). respects_all (b.known ++ b.accepted) r) c.self.view_is ∙ c.requires.respecting in
     let none = settled r a.level.questions (sym (c.closes_all.ensures ∙ ap (settles r) c.as_slice.ensures) ∙ c.if-not-closes_all.false) in
     record {
       wide = c.self.invariant.wide ∙ sym (ap (λ (K : Context). K.width) ok);

@@ -31,7 +31,7 @@ returns g c =
     c.put_bytes-opened.ensures.text ∙ ap (λ (z : Text). z ++ codes " {") c.put_bytes-number.ensures.text in
     let attributes : Text = comma_list (names_of t.attributes c.args.a.now) in
     let intent : take c.put_bytes-between.result c.put_bytes-between.new.text
-        ≡ (((old ++ c.args.digits.now) ++ codes " {") ++ attributes) ++ codes "} | {" =
+    ≡ (((old ++ c.args.digits.now) ++ codes " {") ++ attributes) ++ codes "} | {" =
     c.put_bytes-between.ensures.text
     ∙ ap (λ (z : Text). z ++ codes "} | {") (c.put_intent-intent.ensures.text ∙ ap (λ (z : Text). z ++ attributes) number) in
     record {

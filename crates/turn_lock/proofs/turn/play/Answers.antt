@@ -2,7 +2,7 @@ use Rattle.std.proofs.Common.{◌≡◌, [], ◌∙◌, ap, sym, refl, subst, �
 use Rattle.atomic_table.specs.Table.{rest}
 use Rattle.turn_lock.specs.Histories.{own_of, StartsWith}
 use Rattle.turn_lock.specs.Seats.{pass_of}
-use Rattle.turn_lock.specs.Steps.{IsShown}
+use Rattle.turn_lock.specs.Steps.{SeesValue}
 use Rattle.turn_lock.proofs.EntryLemmas.{grows, enters}
 use Rattle.turn_lock.proofs.ValueLemmas.{shown_now}
 use Rattle.turn_lock.proofs.turn.play.Given.{Over}
@@ -11,7 +11,7 @@ use Rattle.turn_lock.proofs.turn.play.Goals.{After-slot_mut}
 
 -- what the pass is shown in the slot as its turn has come
 there : (g : Over) (c : After-slot_mut g) → (c.wait.new.seat.me.1 ≡ (0, c.slot_mut.result.now) ∷ [])
-    × IsShown g.V.Logged.base g.V.Logged.history g.V.Logged.legal g.V.Logged.by c.draw_ticket-ticket.new.seat.me.0 c.slot_mut.result.now
+    × SeesValue g.V.Logged.base g.V.Logged.history g.V.Logged.legal g.V.Logged.by c.draw_ticket-ticket.new.seat.me.0 c.slot_mut.result.now
     c.wait.new.seat.me.0
 there g c =
     let V = g.V.Logged in
