@@ -28,7 +28,7 @@ use derivation::Rows;
 use fca_model::{Implication, Memory};
 use implication_closure::{ImplicationList, ImplicationListOf, resize_implications};
 use open_sets::{OpenSets, least_size, of_size};
-pub use search::{LevelSearch, OneThread, SideBySide};
+pub use search::{LevelSearch, MOST_PARTS, OneThread, SideBySide};
 use std::alloc::Global;
 
 /// How many sets a walk visits for each rule before it keeps only the least open ones.

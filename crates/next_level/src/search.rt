@@ -19,7 +19,7 @@ use std::thread::{Threads, available_parallelism};
 const PARTS: u32 = 4;
 
 /// How many parts a walk has at most, as each has a list of its own.
-const MOST: u32 = 32;
+pub const MOST_PARTS: u32 = 32;
 
 /// A way to look for the next level.
 pub trait LevelSearch {
@@ -71,9 +71,11 @@ impl<'a, R: Threads> LevelSearch for SideBySide<'a, R> {
 }
 
 impl<'a, R: Threads> SideBySide<'a, R> {
-    /// The search by as many threads as there are processors.
-    pub fn on_all_processors(rt: &'a R) -> SideBySide<'a, R> {
-        let most = MOST as usize;
+    /// The search by as many threads as there are processors, but no more than a walk has parts.
+    pub fn on_all_processors(rt: &'a R) -> SideBySide<'a, R>
+        ensures few { result.most_threads ≤ MOST_PARTS }
+    {
+        let most = MOST_PARTS as usize;
         let count = available_parallelism(rt).map_or(1, |count| count.get());
         SideBySide {
             rt,
@@ -91,7 +93,7 @@ impl<'a, R: Threads> SideBySide<'a, R> {
         }
         self.most_threads
             .saturating_mul(PARTS)
-            .min(MOST)
+            .min(MOST_PARTS)
             .saturating_sub(1)
             .min(width)
     }
