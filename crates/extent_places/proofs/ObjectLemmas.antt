@@ -3,7 +3,7 @@ use Rattle.std.proofs.Common.{◌≡◌, ℕ, ◌+◌, ◌-◌, ◌<◌, ◌≤�
 use Rattle.std.proofs.Common.{take, length, get_or, set, replicate, refl, sym, ap, ap₂, ◌∙◌, subst, arith, inl, inr, get_or-set_same}
 use Rattle.std.proofs.Common.{get_or-set_other, length-set}
 use Rattle.std.proofs.lemmas.Bool.{and_parts, and_from, cases_eq, cases_Bool, false≢true}
-use Rattle.std.proofs.lemmas.List.{length-replicate, take_more, append-nil, get_or_default}
+use Rattle.std.proofs.lemmas.List.{length-replicate, take_more, append-nil, get_or_default, ext_get_or}
 use Rattle.std.proofs.lemmas.List.Elements.{filter-append}
 use Rattle.std.proofs.lemmas.List.Sums.{fold-append, AllPass-from_list_all}
 use Rattle.std.specs.List.{list_all, fold}
@@ -15,6 +15,8 @@ use Rattle.fca_model.proofs.SetLemmas.{get_or-meet, within_at_place, within_from
 use Rattle.fca_model.proofs.SetLemmas.{size_le, strictly_from}
 use Rattle.fca_model.proofs.ListLemmas.{bool_iff, list_all-filter, all_by_place}
 use Rattle.fca_model.proofs.ClosureLemmas.{within-closure, length-closure, closure_in_rows, closure_extensive, respects_from, respects_at}
+use Rattle.attr_bits.specs.Difference.{minus}
+use Rattle.attr_bits.proofs.DifferenceLemmas.{length-minus, get_or-minus}
 use Rattle.extent_places.specs.Objects.{HasObjects, AreColumns, alone}
 use Rattle.fca_model.proofs.SetLemmas.{get_or-empty}
 
@@ -202,10 +204,68 @@ within-column K A S C i inside s c = bool_iff (within S C) (in_closure_of K A i)
     let in_row : within (closure K A) (row K g) ≡ true = closure_in_row K A g inside_rows (sym (s.each g inside_rows) ∙ h) in
     c.each g inside_rows ∙ within-alone K i (row K g) inside ∙ within_at_place (closure K A) (row K g) in_row i t))
 
-pub all_common : (K : Context) (A M : Set) (i : ℕ) → IsUpTo K.width (in_closure_of K A) M i → K.width ≤ i → M ≡ closure K A
-all_common K A M i s all = within_antisymm M (closure K A) (s.long ∙ sym (length-closure K A))
-    (within_from_places M (closure K A) (λ j l t. sym (s.before j (omega (arith, l, s.long, all))) ∙ t))
-    (within_from_places (closure K A) M (λ j l t. s.before j (omega (arith, l, length-closure K A, all)) ∙ t))
+-- M has the attributes of the closure of A that are not left in T
+pub record IsCommon (K : Context) (A M T : Set) : Type 0 where
+  pub wide : length M ≡ K.width
+  pub long : length T ≡ K.width
+  pub each : (i : ℕ) → get_or M i false ≡ (in_closure_of K A i && not (get_or T i false))
+
+-- at first those that A lacks are left
+pub common_none : (K : Context) (A T : Set) → length A ≡ K.width → T ≡ minus (full K.width) A → IsCommon K A A T
+common_none K A T wide is = record {
+  wide = wide;
+  long = ap length is ∙ length-minus (full K.width) A ∙ length-full K.width;
+  each = λ i. start (get_or A i false) (in_closure_of K A i) (get_or (full K.width) i false)
+      (within_at_place A (closure K A) (closure_extensive K A wide) i)
+      (within_at_place (closure K A) (full K.width) (within_full K.width (closure K A) (length-closure K A)) i)
+      ∙ ap (λ b. in_closure_of K A i && not b) (sym (ap (λ (X : Set). get_or X i false) is ∙ get_or-minus (full K.width) A i));
+}
+  where
+    start : (a c f : Bool) → (a ≡ true → c ≡ true) → (c ≡ true → f ≡ true) → a ≡ (c && not (f && not a))
+    start true true true h k = refl
+    start true true false h k = refl
+    start true false f h k = absurd (false≢true (h refl))
+    start false true true h k = refl
+    start false true false h k = absurd (false≢true (k refl))
+    start false false f h k = refl
+
+-- one attribute less is left
+pub common_with : (K : Context) (A M T : Set) (m : ℕ) → IsCommon K A M T → IsNextMember T 0 m → in_closure_of K A m ≡ true
+    → IsCommon K A (set M m true) (set T m false)
+common_with K A M T m s next has = record {
+  wide = length-set M m true ∙ s.wide;
+  long = length-set T m false ∙ s.long;
+  each = λ i. elim (cases_eq i m) [
+    | inl here ↦ ap (λ k. get_or (set M m true) k false) here
+        ∙ get_or-set_same M m true false (omega (arith, next.in_range, s.wide, s.long))
+        ∙ sym (ap₂ (λ c t. c && not t) (ap (in_closure_of K A) here ∙ has)
+        (ap (λ k. get_or (set T m false) k false) here ∙ get_or-set_same T m false false next.in_range))
+    | inr other ↦ get_or-set_other M m i true false other ∙ s.each i
+        ∙ ap (λ t. in_closure_of K A i && not t) (sym (get_or-set_other T m i false false other))
+  ];
+}
+
+pub common_without : (K : Context) (A M T : Set) (m : ℕ) → IsCommon K A M T → in_closure_of K A m ≡ false → IsCommon K A M (set T m false)
+common_without K A M T m s lacks = record {
+  wide = s.wide;
+  long = length-set T m false ∙ s.long;
+  each = λ i. s.each i ∙ elim (cases_eq i m) [
+    | inl here ↦
+        let out : in_closure_of K A i ≡ false = ap (in_closure_of K A) here ∙ lacks in
+        ap (λ c. c && not (get_or T i false)) out ∙ sym (ap (λ c. c && not (get_or (set T m false) i false)) out)
+    | inr other ↦ ap (λ t. in_closure_of K A i && not t) (sym (get_or-set_other T m i false false other))
+  ];
+}
+
+pub common_all : (K : Context) (A M T : Set) → IsCommon K A M T → ((i : ℕ) → 0 ≤ i → i < length T → get_or T i false ≡ false)
+    → M ≡ closure K A
+common_all K A M T s none = ext_get_or false M (closure K A) (s.wide ∙ sym (length-closure K A))
+    (λ i l. s.each i ∙ ap (λ t. in_closure_of K A i && not t) (none i (omega arith) (omega (arith, l, s.wide, s.long)))
+    ∙ whole (in_closure_of K A i))
+  where
+    whole : (b : Bool) → (b && true) ≡ b
+    whole true = refl
+    whole false = refl
 
 -- ---- one attribute more
 

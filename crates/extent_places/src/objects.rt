@@ -137,7 +137,7 @@ pub fn closure_of<const W: usize>(
     meet_of(rows, objects, least)
 }
 
-/// The closure of `least`, whose objects are given: the attributes that all of them have.
+/// The closure of `least`, whose objects are given: its attributes, and those of the others that all of the objects have.
 fn common_of<const W: usize>(
     rows: &RowsOf<W>,
     columns: &[ObjectSet],
@@ -146,14 +146,16 @@ fn common_of<const W: usize>(
 ) -> Bits<W>
     requires columns { AreColumns rows.now columns.now }
     requires objects { HasObjects rows.now least.now objects.now }
+    requires wide { length least.now ≡ rows.now.width }
     ensures { result ≡ closure rows.now least.now }
 {
-    let width = rows.width();
-    let mut common = Bits::empty(width);
-    for attribute in 0..width {
+    let mut common = *least;
+    let mut others = Bits::full(rows.width()).minus(least);
+    while let Some(attribute) = others.next_member(0) {
         if have_all(objects, &columns[attribute as usize]) {
             insert(&mut common, attribute);
         }
+        others = without(&others, attribute);
     }
     common
 }
