@@ -3,3 +3,4 @@ pub mod Form
 pub mod Narrow
 pub mod Written
 pub mod Faults
+pub mod Cells

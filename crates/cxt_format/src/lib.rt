@@ -3,6 +3,7 @@
 
 ghost use Rattle.std.specs.Prelude.{◌≡◌};
 
+mod cells;
 pub mod laws;
 mod line_readers;
 mod narrow;

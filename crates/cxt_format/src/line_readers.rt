@@ -1,14 +1,15 @@
 //! The readers of single lines.
 
-ghost use Rattle.std.specs.Prelude.{◌≡◌, ◌≤◌};
+ghost use Rattle.std.specs.Prelude.{◌≡◌, ◌≤◌, ◌*◌};
 ghost use Rattle.cxt_format.specs.Words as form;
 ghost use Rattle.text_pieces.specs.Telling.{Tells};
 
 use crate::CxtFault;
-use attr_bits::Attrs;
+use crate::cells::set_of_cells;
+use attr_bits::Bits;
 use fca_model::{MAX_ATTRIBUTES, Name, NameFault};
 use std::alloc::Global;
-use text_pieces::{are_marks, is_blank_line, is_numeral, set_of_marks, trim, value_of};
+use text_pieces::{is_blank_line, is_numeral, trim, value_of};
 
 /// Whether the line is the letter B, with blanks round it.
 pub fn is_b_line(line: &[u8]) -> bool
@@ -58,16 +59,17 @@ pub fn name_of(alloc: Global, number: usize, line: &str) -> Result<Name, CxtFaul
 }
 
 /// The row of `width` attributes on line `number`.
-pub fn row_of(width: u32, number: usize, line: &[u8]) -> Result<Attrs, CxtFault>
-    requires { width ≤ MAX_ATTRIBUTES }
+pub fn row_of<const W: usize>(width: u32, number: usize, line: &[u8]) -> Result<Bits<W>, CxtFault>
+    requires few { width ≤ MAX_ATTRIBUTES }
+    requires room { width ≤ 64 * W }
     ensures { result ≡ form.row_form width number line.now }
 {
     if line.len() < width as usize {
         return Err(CxtFault::BadRow(number));
     }
     let (cells, rest) = line.split_at(width as usize);
-    if !are_marks(cells) || !is_blank_line(rest) {
-        return Err(CxtFault::BadRow(number));
+    match set_of_cells(cells) {
+        Some(row) if is_blank_line(rest) => Ok(row),
+        _ => Err(CxtFault::BadRow(number)),
     }
-    Ok(set_of_marks(cells))
 }

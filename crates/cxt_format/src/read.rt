@@ -10,7 +10,7 @@ ghost use Rattle.cxt_format.specs.Form.{Parses};
 
 use crate::CxtFault;
 use crate::line_readers::{count_of, is_b_line, name_of, row_of, title_of};
-use attr_bits::{Attrs, WORDS};
+use attr_bits::{Bits, WORDS};
 use context_table::Table;
 use derivation::RowsOf;
 use fca_model::{MAX_ATTRIBUTES, MAX_OBJECTS, Name};
@@ -131,13 +131,14 @@ fn next_name(alloc: Global, lines: &mut Lines<'_>) -> Result<Name, CxtFault>
     }
 }
 
-fn next_row(width: u32, lines: &mut Lines<'_>) -> Result<Attrs, CxtFault>
-    requires { width ≤ MAX_ATTRIBUTES }
+fn next_row<const W: usize>(width: u32, lines: &mut Lines<'_>) -> Result<Bits<W>, CxtFault>
+    requires few { width ≤ MAX_ATTRIBUTES }
+    requires room { width ≤ 64 * W }
     ensures form { Parses (λ x. x) result (form.next_row width lines.old) lines.new }
     ensures wide { IfOk result (λ row. length row ≡ width) }
 {
     if width == 0 {
-        return Ok(Attrs::empty(0));
+        return Ok(Bits::empty(0));
     }
     match lines.next_filled() {
         Some((number, line)) => row_of(width, number, line.as_bytes()),
@@ -225,7 +226,7 @@ pub(crate) fn read_rows<const W: usize>(
 {
     let mut rows = RowsOf::new(alloc, width)?;
     for _place in 0..count {
-        rows.push(next_row(width, lines)?.resize())?;
+        rows.push(next_row(width, lines)?)?;
     }
     Ok(rows)
 }

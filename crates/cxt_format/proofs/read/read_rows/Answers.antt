@@ -1,7 +1,6 @@
 use Rattle.std.proofs.Common.{◌≡◌, ◌⊎◌, ◌∙◌, ◌+◌, ◌++◌, ◌∷◌, ℕ, [], Err, sym, ap, inl, inr}
 use Rattle.std.proofs.lemmas.List.{length_push}
 use Rattle.fca_model.specs.Context.{Context}
-use Rattle.fca_model.specs.Sets.{Set}
 use Rattle.cxt_format.specs.Form.{next_row, rows_form}
 use Rattle.cxt_format.specs.declared.CxtFault.TheVariants as fault
 use Rattle.cxt_format.proofs.FormLemmas.{more-Ok, more-Err, Parses-passed}
@@ -23,7 +22,7 @@ pub loop-place-preserved : goal.loop-place-preserved
 loop-place-preserved g c =
     let loop = c.loop-place in
     let pushed = c.in_ok-push.ensures.ok in
-    let rows = ap (λ (K : Context). K.rows) pushed ∙ ap (λ (row : Set). loop.rows.rows ++ row ∷ []) c.resize.ensures in (
+    let rows = ap (λ (K : Context). K.rows) pushed in (
       rw rows (length_push loop.rows.rows c.in_ok-next_row.field-0 ∙ ap (λ (n : ℕ). n + 1) loop.invariant.0),
       ap (λ (K : Context). K.width) pushed ∙ loop.invariant.1,
       rw rows
