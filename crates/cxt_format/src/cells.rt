@@ -50,7 +50,7 @@ fn crosses_of(cells: &[u8]) -> Option<u64>
     }
 }
 
-/// The same, by the first N cells and the last N, which may have cells in common.
+/// The crosses among the cells as bits, by the first N cells and the last N, which may have cells in common.
 fn crosses_of_ends<const N: usize>(cells: &[u8]) -> Option<u64>
     requires few { N ≤ 32 }
     requires within { N ≤ length cells.now }
@@ -63,7 +63,7 @@ fn crosses_of_ends<const N: usize>(cells: &[u8]) -> Option<u64>
     Some(first | last << behind)
 }
 
-/// The same of the cells in N lanes.
+/// The crosses among N cells as bits, if each is a mark.
 fn crosses_in<const N: usize>(lanes: Simd<u8, N>) -> Option<u64>
     requires { N ≤ 64 }
     ensures { result ≡ crosses_of lanes.entry }
