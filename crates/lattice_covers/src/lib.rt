@@ -15,7 +15,7 @@ use derivation::{Rows, RowsOf};
 use extent_places::{has, insert};
 use fca_model::Memory;
 use lectic_concepts::resize_sets;
-use places::place_in;
+use places::{no_places, place_in};
 use std::alloc::Global;
 
 /// The pairs of places of intents of which the second is a next larger intent of the first, ordered by the first and then the second. They are found in sets
@@ -58,7 +58,7 @@ pub fn covers_of<const W: usize>(
     requires { intents.now ≡ closed_sets rows.now }
     ensures { IfOk result (λ pairs. pairs.items ≡ covers rows.now) }
 {
-    let mut latest = vec![in alloc; 0; rows.width() as usize]?;
+    let mut latest = no_places(alloc, rows.width())?;
     let mut chain = Vec::new(alloc);
     let mut neighbours = Vec::new(alloc);
     let mut pairs = Vec::new(alloc);
@@ -115,8 +115,7 @@ fn add_pairs<const W: usize>(
     ensures { OnOk result (pairs.new.items ≡ pairs.old.items ++ pairs_with intents.now i sets.now) }
 {
     for x in sets {
-        let attribute = x.first_missing(a).unwrap_or(0);
-        pairs.push((i, place_in(intents, latest, attribute, x)))?;
+        pairs.push((i, place_in(intents, latest, i, a, x)))?;
     }
     Ok(())
 }

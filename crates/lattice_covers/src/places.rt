@@ -6,31 +6,52 @@ ghost use Rattle.fca_model.specs.Sets.{increasing, lectic_cmp};
 ghost use Rattle.lattice_covers.specs.Neighbours.{place_in};
 
 use attr_bits::Bits;
+use fca_model::Memory;
+use std::alloc::Global;
 
-/// How many places behind the one of the set before are looked at.
-const WINDOW: usize = 64;
+/// How many slots there are for each first new attribute.
+const SECONDS: usize = 64;
 
-/// How many of the sets, which are in lectic order, come before x. `latest` has for each attribute the place of the last set whose least new attribute it was:
-/// next larger intents of intents that follow each other mostly follow each other too. The set at that place is compared with x before the place is given back.
+/// The slots of the latest places, all 0.
+pub(crate) fn no_places(alloc: Global, width: u32) -> Result<Vec<usize>, Memory> {
+    Ok(vec![in alloc; 0; SECONDS * width as usize]?)
+}
+
+/// How many of the sets, which are in lectic order, come before x, a next larger intent of the one at place i, which is a. `latest` has for the first two new
+/// attributes the place of the last set that had them. Where the new attributes are the same, the larger intents follow each other as the smaller ones do, so x
+/// is looked for behind that place first. The set that is found is compared with x before its place is given back.
 pub(crate) fn place_in<const W: usize>(
     sets: &[Bits<W>],
     latest: &mut [usize],
-    attribute: u32,
+    i: usize,
+    a: &Bits<W>,
     x: &Bits<W>,
 ) -> usize
     requires { increasing sets.now ≡ true }
     ensures { result ≡ place_in sets.now x.now }
 {
-    let place = place_from(sets, latest_of(latest, attribute), x);
-    if let Some(kept) = latest.get_mut(attribute as usize) {
+    let slot = slot_of(&x.minus(a));
+    let place = place_from(sets, latest_of(latest, slot).max(i), x);
+    if let Some(kept) = latest.get_mut(slot) {
         *kept = place;
     }
     place
 }
 
-/// The place of the last set whose least new attribute this one was, or 0.
-fn latest_of(latest: &[usize], attribute: u32) -> usize {
-    latest.get(attribute as usize).copied().unwrap_or(0)
+/// The slot of a set with these new attributes, by the first two of them.
+fn slot_of<const W: usize>(new: &Bits<W>) -> usize {
+    match new.next_member(0) {
+        None => 0,
+        Some(first) => {
+            let second = new.next_member(first + 1).unwrap_or(0);
+            SECONDS * first as usize + second as usize % SECONDS
+        }
+    }
+}
+
+/// The place of the last set in this slot, or 0.
+fn latest_of(latest: &[usize], slot: usize) -> usize {
+    latest.get(slot).copied().unwrap_or(0)
 }
 
 /// How many of the sets come before x, looked for behind the given place first.
@@ -45,10 +66,31 @@ fn place_from<const W: usize>(sets: &[Bits<W>], before: usize, x: &Bits<W>) -> u
     count_before(sets, x)
 }
 
-/// A place from the given one on where x may stand.
+/// A place from the given one on where x may stand. It is looked for by steps that double, and by bisection within the last step.
 fn place_near<const W: usize>(sets: &[Bits<W>], from: usize, x: &Bits<W>) -> usize {
-    let end = sets.len().min(from.saturating_add(WINDOW));
-    if end <= from || sets[from] == *x {
+    if sets.len() <= from || sets[from] == *x {
+        return from;
+    }
+    let mut low = from;
+    for doublings in 0..usize::BITS {
+        let high = low.saturating_add(1 << doublings);
+        if !comes_before(sets, high, x) {
+            return place_between(sets, low, high, x);
+        }
+        low = high;
+    }
+    low
+}
+
+/// Whether there is a set at this place and it comes before x.
+fn comes_before<const W: usize>(sets: &[Bits<W>], place: usize, x: &Bits<W>) -> bool {
+    place < sets.len() && sets[place].lectic_cmp(x).is_lt()
+}
+
+/// A place from the first one up to the second where x may stand.
+fn place_between<const W: usize>(sets: &[Bits<W>], from: usize, to: usize, x: &Bits<W>) -> usize {
+    let end = sets.len().min(to);
+    if end <= from {
         return from;
     }
     from.saturating_add(count_before(&sets[from..end], x))
