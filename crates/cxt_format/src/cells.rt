@@ -50,7 +50,7 @@ fn crosses_if_marks(cells: &[u8]) -> Option<u64>
     }
 }
 
-/// The same of N to 2 * N cells, by the first N and the last N, which may have cells in common.
+/// The crosses among N to 2 * N cells as bits, if each is a mark, by the first N cells and the last N, which may have cells in common.
 fn crosses_by_ends<const N: usize>(cells: &[u8]) -> Option<u64>
     requires few { N ≤ 32 }
     requires within { N ≤ length cells.now }
@@ -63,7 +63,7 @@ fn crosses_by_ends<const N: usize>(cells: &[u8]) -> Option<u64>
     Some(first | last << behind)
 }
 
-/// The same of the cells in N lanes.
+/// The crosses among N cells as bits, if each is a mark.
 fn crosses_in_lanes<const N: usize>(lanes: Simd<u8, N>) -> Option<u64>
     requires { N ≤ 64 }
     ensures { result ≡ crosses_if_marks lanes.entry }

@@ -1,9 +1,9 @@
 -- Sets of objects, and the closure as the meet of the rows of an extent.
 use Rattle.std.proofs.Common.{◌≡◌, ℕ, ◌+◌, ◌-◌, ◌<◌, ◌≤◌, Bool, true, false, not, ◌&&◌, ◌||◌, cond, List, [], ◌∷◌, ◌++◌, filter}
-use Rattle.std.proofs.Common.{take, length, get_or, set, replicate, refl, sym, ap, ap₂, ◌∙◌, subst, arith, inl, inr, get_or-set_same}
+use Rattle.std.proofs.Common.{take, length, get_or, set, replicate, refl, sym, ap, ap₂, ◌∙◌, subst, arith, inl, inr, ◌⊎◌, get_or-set_same}
 use Rattle.std.proofs.Common.{get_or-set_other, length-set}
-use Rattle.std.proofs.lemmas.Bool.{and_parts, and_from, cases_eq, cases_Bool, false≢true}
-use Rattle.std.proofs.lemmas.List.{length-replicate, take_more, append-nil, get_or_default}
+use Rattle.std.proofs.lemmas.Bool.{and_parts, and_from, cases_eq, false≢true}
+use Rattle.std.proofs.lemmas.List.{length-replicate, get_or-replicate, take_more, append-nil, get_or_default, ext_get_or}
 use Rattle.std.proofs.lemmas.List.Elements.{filter-append}
 use Rattle.std.proofs.lemmas.List.Sums.{fold-append, AllPass-from_list_all}
 use Rattle.std.specs.List.{list_all, fold}
@@ -15,6 +15,8 @@ use Rattle.fca_model.proofs.SetLemmas.{get_or-meet, within_at_place, within_from
 use Rattle.fca_model.proofs.SetLemmas.{size_le, strictly_from}
 use Rattle.fca_model.proofs.ListLemmas.{bool_iff, list_all-filter, all_by_place}
 use Rattle.fca_model.proofs.ClosureLemmas.{within-closure, length-closure, closure_in_rows, closure_extensive, respects_from, respects_at}
+use Rattle.attr_bits.specs.Difference.{minus}
+use Rattle.attr_bits.proofs.DifferenceLemmas.{length-minus, get_or-minus}
 use Rattle.extent_places.specs.Objects.{HasObjects, AreColumns, alone}
 use Rattle.fca_model.proofs.SetLemmas.{get_or-empty}
 
@@ -38,38 +40,43 @@ within-alone K i R inside = bool_iff (within (alone K i) R) (get_or R i false)
 
 -- ---- a set that is filled place by place
 
--- M has the places that pass the test before a place, and none from there on
-pub record IsUpTo (n : ℕ) (b : ℕ → Bool) (M : Set) (i : ℕ) : Type 0 where
+-- before a place M has those that pass the test; each from there on is a member, or none is
+pub record IsUpTo (n : ℕ) (b : ℕ → Bool) (member : Bool) (M : Set) (i : ℕ) : Type 0 where
   pub long : length M ≡ n
   pub before : (k : ℕ) → k < i → get_or M k false ≡ b k
-  pub behind : (k : ℕ) → i ≤ k → get_or M k false ≡ false
+  pub behind : (k : ℕ) → i ≤ k → k < n → get_or M k false ≡ member
 
-pub up_to_none : (n : ℕ) (b : ℕ → Bool) (M : Set) → M ≡ replicate n false → IsUpTo n b M 0
-up_to_none n b M is = record {
-  long = ap length is ∙ length-replicate n false;
+pub up_to_start : (n : ℕ) (b : ℕ → Bool) (member : Bool) (M : Set) → M ≡ replicate n member → IsUpTo n b member M 0
+up_to_start n b member M is = record {
+  long = ap length is ∙ length-replicate n member;
   before = λ k l. absurd (omega (arith, l));
-  behind = λ k l. ap (λ (X : Set). get_or X k false) is ∙ get_or-empty n k;
+  behind = λ k l m. ap (λ (X : Set). get_or X k false) is ∙ get_or-replicate n k member false m;
 }
 
-pub up_to_with : (n : ℕ) (b : ℕ → Bool) (M : Set) (i : ℕ) → i < n → IsUpTo n b M i → b i ≡ true → IsUpTo n b (set M i true) (i + 1)
-up_to_with n b M i inside s h = record {
-  long = length-set M i true ∙ s.long;
+-- the next place changes
+pub up_to_changed : (n : ℕ) (b : ℕ → Bool) (member : Bool) (M : Set) (i : ℕ) → i < n → IsUpTo n b member M i → b i ≡ not member
+    → IsUpTo n b member (set M i (not member)) (i + 1)
+up_to_changed n b member M i inside s h = record {
+  long = length-set M i (not member) ∙ s.long;
   before = λ k l. elim (cases_eq k i) [
-    | inl here ↦ ap (λ j. get_or (set M i true) j false) here ∙ get_or-set_same M i true false (omega (arith, inside, s.long))
-        ∙ sym (ap b here ∙ h)
-    | inr other ↦ get_or-set_other M i k true false other ∙ s.before k (omega (arith, l, other))
+    | inl here ↦ ap (λ j. get_or (set M i (not member)) j false) here
+        ∙ get_or-set_same M i (not member) false (omega (arith, inside, s.long)) ∙ sym (ap b here ∙ h)
+    | inr other ↦ get_or-set_other M i k (not member) false other ∙ s.before k (omega (arith, l, other))
   ];
-  behind = λ k l. get_or-set_other M i k true false (λ here. absurd (omega (arith, l, here))) ∙ s.behind k (omega (arith, l));
+  behind = λ k l m. get_or-set_other M i k (not member) false (λ here. absurd (omega (arith, l, here)))
+      ∙ s.behind k (omega (arith, l)) m;
 }
 
-pub up_to_without : (n : ℕ) (b : ℕ → Bool) (M : Set) (i : ℕ) → IsUpTo n b M i → b i ≡ false → IsUpTo n b M (i + 1)
-up_to_without n b M i s h = record {
+-- and it stays
+pub up_to_kept : (n : ℕ) (b : ℕ → Bool) (member : Bool) (M : Set) (i : ℕ) → i < n → IsUpTo n b member M i → b i ≡ member
+    → IsUpTo n b member M (i + 1)
+up_to_kept n b member M i inside s h = record {
   long = s.long;
   before = λ k l. elim (cases_eq k i) [
-    | inl here ↦ s.behind k (omega (arith, here)) ∙ sym (ap b here ∙ h)
+    | inl here ↦ s.behind k (omega (arith, here)) (omega (arith, here, inside)) ∙ sym (ap b here ∙ h)
     | inr other ↦ s.before k (omega (arith, l, other))
   ];
-  behind = λ k l. s.behind k (omega (arith, l));
+  behind = λ k l m. s.behind k (omega (arith, l)) m;
 }
 
 -- ---- the objects of a set
@@ -77,8 +84,9 @@ up_to_without n b M i s h = record {
 abbrev pub contains : Context → Set → ℕ → Bool
 contains K A g = within A (row K g)
 
-pub all_objects : (K : Context) (A S : Set) (m : ℕ) → IsUpTo (length K.rows) (contains K A) S m → length K.rows ≤ m → HasObjects K A S
-all_objects K A S m s all = record { long = s.long; each = λ k l. s.before k (omega (arith, l, all)) }
+pub all_objects : (K : Context) (A : Set) (member : Bool) (S : Set) (m : ℕ) → IsUpTo (length K.rows) (contains K A) member S m
+    → length K.rows ≤ m → HasObjects K A S
+all_objects K A member S m s all = record { long = s.long; each = λ k l. s.before k (omega (arith, l, all)) }
 
 -- ---- all objects
 
@@ -202,10 +210,68 @@ within-column K A S C i inside s c = bool_iff (within S C) (in_closure_of K A i)
     let in_row : within (closure K A) (row K g) ≡ true = closure_in_row K A g inside_rows (sym (s.each g inside_rows) ∙ h) in
     c.each g inside_rows ∙ within-alone K i (row K g) inside ∙ within_at_place (closure K A) (row K g) in_row i t))
 
-pub all_common : (K : Context) (A M : Set) (i : ℕ) → IsUpTo K.width (in_closure_of K A) M i → K.width ≤ i → M ≡ closure K A
-all_common K A M i s all = within_antisymm M (closure K A) (s.long ∙ sym (length-closure K A))
-    (within_from_places M (closure K A) (λ j l t. sym (s.before j (omega (arith, l, s.long, all))) ∙ t))
-    (within_from_places (closure K A) M (λ j l t. s.before j (omega (arith, l, length-closure K A, all)) ∙ t))
+-- M has the attributes of the closure of A that are not left in T
+pub record IsCommon (K : Context) (A M T : Set) : Type 0 where
+  pub wide : length M ≡ K.width
+  pub long : length T ≡ K.width
+  pub each : (i : ℕ) → get_or M i false ≡ (in_closure_of K A i && not (get_or T i false))
+
+-- at first those that A lacks are left
+pub common_none : (K : Context) (A T : Set) → length A ≡ K.width → T ≡ minus (full K.width) A → IsCommon K A A T
+common_none K A T wide is = record {
+  wide = wide;
+  long = ap length is ∙ length-minus (full K.width) A ∙ length-full K.width;
+  each = λ i. start (get_or A i false) (in_closure_of K A i) (get_or (full K.width) i false)
+      (within_at_place A (closure K A) (closure_extensive K A wide) i)
+      (within_at_place (closure K A) (full K.width) (within_full K.width (closure K A) (length-closure K A)) i)
+      ∙ ap (λ b. in_closure_of K A i && not b) (sym (ap (λ (X : Set). get_or X i false) is ∙ get_or-minus (full K.width) A i));
+}
+  where
+    start : (a c f : Bool) → (a ≡ true → c ≡ true) → (c ≡ true → f ≡ true) → a ≡ (c && not (f && not a))
+    start true true true h k = refl
+    start true true false h k = refl
+    start true false f h k = absurd (false≢true (h refl))
+    start false true true h k = refl
+    start false true false h k = absurd (false≢true (k refl))
+    start false false f h k = refl
+
+-- one attribute less is left
+pub common_with : (K : Context) (A M T : Set) (m : ℕ) → IsCommon K A M T → IsNextMember T 0 m → in_closure_of K A m ≡ true
+    → IsCommon K A (set M m true) (set T m false)
+common_with K A M T m s next has = record {
+  wide = length-set M m true ∙ s.wide;
+  long = length-set T m false ∙ s.long;
+  each = λ i. elim (cases_eq i m) [
+    | inl here ↦ ap (λ k. get_or (set M m true) k false) here
+        ∙ get_or-set_same M m true false (omega (arith, next.in_range, s.wide, s.long))
+        ∙ sym (ap₂ (λ c t. c && not t) (ap (in_closure_of K A) here ∙ has)
+        (ap (λ k. get_or (set T m false) k false) here ∙ get_or-set_same T m false false next.in_range))
+    | inr other ↦ get_or-set_other M m i true false other ∙ s.each i
+        ∙ ap (λ t. in_closure_of K A i && not t) (sym (get_or-set_other T m i false false other))
+  ];
+}
+
+pub common_without : (K : Context) (A M T : Set) (m : ℕ) → IsCommon K A M T → in_closure_of K A m ≡ false → IsCommon K A M (set T m false)
+common_without K A M T m s lacks = record {
+  wide = s.wide;
+  long = length-set T m false ∙ s.long;
+  each = λ i. s.each i ∙ elim (cases_eq i m) [
+    | inl here ↦
+        let out : in_closure_of K A i ≡ false = ap (in_closure_of K A) here ∙ lacks in
+        ap (λ c. c && not (get_or T i false)) out ∙ sym (ap (λ c. c && not (get_or (set T m false) i false)) out)
+    | inr other ↦ ap (λ t. in_closure_of K A i && not t) (sym (get_or-set_other T m i false false other))
+  ];
+}
+
+pub common_all : (K : Context) (A M T : Set) → IsCommon K A M T → ((i : ℕ) → 0 ≤ i → i < length T → get_or T i false ≡ false)
+    → M ≡ closure K A
+common_all K A M T s none = ext_get_or false M (closure K A) (s.wide ∙ sym (length-closure K A))
+    (λ i l. s.each i ∙ ap (λ t. in_closure_of K A i && not t) (none i (omega arith) (omega (arith, l, s.wide, s.long)))
+    ∙ whole (in_closure_of K A i))
+  where
+    whole : (b : Bool) → (b && true) ≡ b
+    whole true = refl
+    whole false = refl
 
 -- ---- one attribute more
 
@@ -278,43 +344,53 @@ met_next K A k R b l is t = ap (fold meet (full K.width)) (filter_next (within A
 
 -- ---- columns
 
--- each column has the objects before a place
-pub record AreColumnsUpTo (K : Context) (Cs : List Set) (m : ℕ) : Type 0 where
+-- each column has the objects before a place; it has all others, or none
+pub record AreColumnsUpTo (K : Context) (member : Bool) (Cs : List Set) (m : ℕ) : Type 0 where
   pub wide : length Cs ≡ K.width
-  pub each : (i : ℕ) → i < K.width → IsUpTo (length K.rows) (contains K (alone K i)) (get_or Cs i []) m
+  pub each : (i : ℕ) → i < K.width → IsUpTo (length K.rows) (contains K (alone K i)) member (get_or Cs i []) m
 
-pub columns_none : (K : Context) (Cs : List Set) → length Cs ≡ K.width
-    → ((i : ℕ) → i < K.width → get_or Cs i [] ≡ replicate (length K.rows) false) → AreColumnsUpTo K Cs 0
-columns_none K Cs wide empty = record {
+pub columns_start : (K : Context) (member : Bool) (Cs : List Set) → length Cs ≡ K.width
+    → ((i : ℕ) → i < K.width → get_or Cs i [] ≡ replicate (length K.rows) member) → AreColumnsUpTo K member Cs 0
+columns_start K member Cs wide start = record {
   wide = wide;
-  each = λ i l. up_to_none (length K.rows) (contains K (alone K i)) (get_or Cs i []) (empty i l);
+  each = λ i l. up_to_start (length K.rows) (contains K (alone K i)) member (get_or Cs i []) (start i l);
 }
 
 -- one object more
-pub columns_next : (K : Context) (Cs Ds : List Set) (m : ℕ) (R : Set) → m < length K.rows → R ≡ row K m → AreColumnsUpTo K Cs m
-    → length Ds ≡ length Cs
-    → ((i : ℕ) → i < K.width → get_or R i false ≡ true → get_or Ds i [] ≡ set (get_or Cs i []) m true)
-    → ((i : ℕ) → i < K.width → get_or R i false ≡ false → get_or Ds i [] ≡ get_or Cs i [])
-    → AreColumnsUpTo K Ds (m + 1)
-columns_next K Cs Ds m R inside is before long with others = record { wide = long ∙ before.wide; each = each }
+pub columns_next : (K : Context) (member : Bool) (Cs Ds : List Set) (m : ℕ) (R : Set) → m < length K.rows → R ≡ row K m
+    → AreColumnsUpTo K member Cs m → length Ds ≡ length Cs
+    → ((i : ℕ) → i < K.width → get_or R i false ≡ not member → get_or Ds i [] ≡ set (get_or Cs i []) m (not member))
+    → ((i : ℕ) → i < K.width → get_or R i false ≡ member → get_or Ds i [] ≡ get_or Cs i [])
+    → AreColumnsUpTo K member Ds (m + 1)
+columns_next K member Cs Ds m R inside is before long changed kept = record { wide = long ∙ before.wide; each = each }
   where
-    each : (i : ℕ) → i < K.width → IsUpTo (length K.rows) (contains K (alone K i)) (get_or Ds i []) (m + 1)
+    same_or_not : (b c : Bool) → (b ≡ c) ⊎ (b ≡ not c)
+    same_or_not true true = inl refl
+    same_or_not true false = inr refl
+    same_or_not false true = inr refl
+    same_or_not false false = inl refl
+
+    each : (i : ℕ) → i < K.width → IsUpTo (length K.rows) (contains K (alone K i)) member (get_or Ds i []) (m + 1)
     each i l =
         let same_bit : contains K (alone K i) m ≡ get_or R i false = ap (within (alone K i)) (sym is) ∙ within-alone K i R l in
-        elim (cases_Bool (get_or R i false)) [
-          | inl t ↦ subst (λ (S : Set). IsUpTo (length K.rows) (contains K (alone K i)) S (m + 1)) (sym (with i l t))
-              (up_to_with (length K.rows) (contains K (alone K i)) (get_or Cs i []) m inside (before.each i l) (same_bit ∙ t))
-          | inr f ↦ subst (λ (S : Set). IsUpTo (length K.rows) (contains K (alone K i)) S (m + 1)) (sym (others i l f))
-              (up_to_without (length K.rows) (contains K (alone K i)) (get_or Cs i []) m (before.each i l) (same_bit ∙ f))
+        elim (same_or_not (get_or R i false) member) [
+          | inl t ↦ subst (λ (S : Set). IsUpTo (length K.rows) (contains K (alone K i)) member S (m + 1)) (sym (kept i l t))
+              (up_to_kept (length K.rows) (contains K (alone K i)) member (get_or Cs i []) m inside (before.each i l) (same_bit ∙ t))
+          | inr f ↦ subst (λ (S : Set). IsUpTo (length K.rows) (contains K (alone K i)) member S (m + 1)) (sym (changed i l f))
+              (up_to_changed (length K.rows) (contains K (alone K i)) member (get_or Cs i []) m inside (before.each i l) (same_bit ∙ f))
         ]
 
-pub columns_all : (K : Context) (Cs : List Set) (m : ℕ) → AreColumnsUpTo K Cs m → length K.rows ≤ m → AreColumns K Cs
-columns_all K Cs m up all = record { wide = up.wide; each = λ i l. all_objects K (alone K i) (get_or Cs i []) m (up.each i l) all }
+pub columns_all : (K : Context) (member : Bool) (Cs : List Set) (m : ℕ) → AreColumnsUpTo K member Cs m → length K.rows ≤ m
+    → AreColumns K Cs
+columns_all K member Cs m up all = record {
+  wide = up.wide;
+  each = λ i l. all_objects K (alone K i) member (get_or Cs i []) m (up.each i l) all;
+}
 
 -- each column has a place for each object
-pub columns_long : (K : Context) (Cs : List Set) (m : ℕ) → AreColumnsUpTo K Cs m → (k : ℕ) (d : Set) → k < length Cs
+pub columns_long : (K : Context) (member : Bool) (Cs : List Set) (m : ℕ) → AreColumnsUpTo K member Cs m → (k : ℕ) (d : Set) → k < length Cs
     → length (get_or Cs k d) ≡ length K.rows
-columns_long K Cs m up k d l = ap length (get_or_default Cs k d [] l) ∙ (up.each k (omega (arith, l, up.wide))).long
+columns_long K member Cs m up k d l = ap length (get_or_default Cs k d [] l) ∙ (up.each k (omega (arith, l, up.wide))).long
 
 -- ---- a set that grows to a larger one
 

@@ -56,6 +56,18 @@ pub fn without<const W: usize>(set: &Bits<W>, i: u32) -> Bits<W>
     }
 }
 
+/// Adds place i if `member` is true, and else takes it out.
+pub(crate) fn put<const W: usize>(set: &mut Bits<W>, i: u32, member: bool)
+    requires { i < length set.old }
+    ensures { set.new ≡ slice_set set.old i member }
+{
+    if member {
+        insert(set, i);
+    } else {
+        *set = without(set, i);
+    }
+}
+
 /// Whether place i stands in one of W words.
 fn is_in_words<const W: usize>(i: u32) -> bool
     ensures { i < 64 * W → result ≡ true }

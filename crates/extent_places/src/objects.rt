@@ -5,7 +5,7 @@ ghost use Rattle.fca_model.specs.Sets.{within};
 ghost use Rattle.fca_model.specs.Context.{closure};
 ghost use Rattle.extent_places.specs.Objects.{AreColumns, HasObjects, alone};
 
-use crate::members::{has, insert, without};
+use crate::members::{insert, put, without};
 use attr_bits::Bits;
 use derivation::RowsOf;
 use fca_model::Memory;
@@ -30,7 +30,7 @@ pub fn columns_of<const W: usize>(alloc: Global, rows: &RowsOf<W>) -> Result<Vec
     Ok(columns)
 }
 
-/// Puts the objects of each attribute into the list, in place of what it had.
+/// Puts the objects of each attribute into the list, in place of what it had. If the rows are dense, the columns begin full, since then fewer members change.
 pub(crate) fn put_columns<const W: usize>(
     columns: &mut Vec<ObjectSet>,
     rows: &RowsOf<W>,
@@ -39,39 +39,72 @@ pub(crate) fn put_columns<const W: usize>(
     ensures { OnOk result (AreColumns rows.now columns.new.items) }
 {
     let width = rows.width();
+    let dense = are_dense(rows);
     columns.clear();
-    columns.resize(width as usize, Bits::empty(rows.len() as u32))?;
-    fill_columns(columns, rows);
+    columns.resize(width as usize, all_or_none(rows.len() as u32, dense))?;
+    fill_columns(columns, rows, dense);
     Ok(())
 }
 
-/// Adds each object to the columns of its attributes, which are empty.
-fn fill_columns<const W: usize>(columns: &mut [ObjectSet], rows: &RowsOf<W>)
-    requires few { length rows.now.rows ≤ FEW_OBJECTS }
-    requires wide { length columns.old ≡ rows.now.width }
-    requires empty { (i : ℕ) → i < rows.now.width → slice_index_or columns.old i [] ≡ replicate (length rows.now.rows) false }
-    ensures { AreColumns rows.now columns.new }
+/// Whether about half of the cells or more have a cross.
+fn are_dense<const W: usize>(rows: &RowsOf<W>) -> bool {
+    let width = rows.width();
+    let mut crosses = 0u32;
+    for row in rows.as_slice() {
+        crosses = crosses.saturating_add(row.size());
+    }
+    let half = u64::from(width / 2);
+    half.saturating_mul(rows.len() as u64) < u64::from(crosses)
+}
+
+/// All of so many objects, or none.
+fn all_or_none(count: u32, all: bool) -> ObjectSet
+    requires { count ≤ FEW_OBJECTS }
+    ensures { result ≡ replicate count all }
 {
-    let _width = rows.width();
-    for (object, row) in rows.as_slice().iter().enumerate() {
-        add_object(columns, object as u32, row);
+    if all {
+        Bits::full(count)
+    } else {
+        Bits::empty(count)
     }
 }
 
-/// Adds the object, whose row is given, to the columns of its attributes.
-fn add_object<const W: usize>(columns: &mut [ObjectSet], object: u32, row: &Bits<W>)
-    requires wide { length columns.old ≡ length row.now }
+/// Makes columns that have all objects, or none, the columns of the rows.
+fn fill_columns<const W: usize>(columns: &mut [ObjectSet], rows: &RowsOf<W>, all: bool)
+    requires few { length rows.now.rows ≤ FEW_OBJECTS }
+    requires wide { length columns.old ≡ rows.now.width }
+    requires start { (i : ℕ) → i < rows.now.width → slice_index_or columns.old i [] ≡ replicate (length rows.now.rows) all }
+    ensures { AreColumns rows.now columns.new }
+{
+    let attributes = Bits::full(rows.width());
+    for (object, row) in rows.as_slice().iter().enumerate() {
+        if all {
+            put_object(columns, object as u32, &attributes.minus(row), false);
+        } else {
+            put_object(columns, object as u32, row, true);
+        }
+    }
+}
+
+/// Adds the object to the columns of these attributes if `member` is true, and else takes it out.
+fn put_object<const W: usize>(
+    columns: &mut [ObjectSet],
+    object: u32,
+    attributes: &Bits<W>,
+    member: bool,
+)
+    requires wide { length columns.old ≡ length attributes.now }
     requires inside { All (λ column. object < length column) columns.old }
     ensures wide { length columns.new ≡ length columns.old }
-    ensures with { (i : ℕ) → i < length row.now → slice_index_or row.now i false ≡ true
-        → slice_index_or columns.new i [] ≡ slice_set (slice_index_or columns.old i []) object true }
-    ensures others { (i : ℕ) → i < length row.now → slice_index_or row.now i false ≡ false
+    ensures those { (i : ℕ) → i < length attributes.now → slice_index_or attributes.now i false ≡ true
+        → slice_index_or columns.new i [] ≡ slice_set (slice_index_or columns.old i []) object member }
+    ensures others { (i : ℕ) → i < length attributes.now → slice_index_or attributes.now i false ≡ false
         → slice_index_or columns.new i [] ≡ slice_index_or columns.old i [] }
 {
-    let _width = row.width();
+    let _width = attributes.width();
     let mut from = 0;
-    while let Some(attribute) = row.next_member(from) {
-        insert(&mut columns[attribute as usize], object);
+    while let Some(attribute) = attributes.next_member(from) {
+        put(&mut columns[attribute as usize], object, member);
         from = attribute + 1;
     }
 }
@@ -137,7 +170,7 @@ pub fn closure_of<const W: usize>(
     meet_of(rows, objects, least)
 }
 
-/// The closure of `least`, whose objects are given: the attributes that all of them have.
+/// The closure of `least`, whose objects are given: its attributes, and those of the others that all of the objects have.
 fn common_of<const W: usize>(
     rows: &RowsOf<W>,
     columns: &[ObjectSet],
@@ -146,14 +179,16 @@ fn common_of<const W: usize>(
 ) -> Bits<W>
     requires columns { AreColumns rows.now columns.now }
     requires objects { HasObjects rows.now least.now objects.now }
+    requires wide { length least.now ≡ rows.now.width }
     ensures { result ≡ closure rows.now least.now }
 {
-    let width = rows.width();
-    let mut common = Bits::empty(width);
-    for attribute in 0..width {
+    let mut common = *least;
+    let mut others = Bits::full(rows.width()).minus(least);
+    while let Some(attribute) = others.next_member(0) {
         if have_all(objects, &columns[attribute as usize]) {
             insert(&mut common, attribute);
         }
+        others = without(&others, attribute);
     }
     common
 }

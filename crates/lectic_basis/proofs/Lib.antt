@@ -1,3 +1,4 @@
+pub mod RowLemmas
 pub mod PlaceLemmas
 pub mod ListingLemmas
 pub mod FamilyLemmas

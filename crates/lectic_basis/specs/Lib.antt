@@ -1,3 +1,4 @@
+pub mod Rows
 pub mod Entries
 pub mod Trees
 pub mod Walks

@@ -15,19 +15,19 @@ use fca_model::Memory;
 pub fn close<const W: usize>(
     found: &mut WatchedList<W>,
     done: &Bits<W>,
-    closed: &mut Bits<W>,
+    reached: &mut Bits<W>,
     limit: u32,
 ) -> Result<bool, Memory>
-    requires { CanClose found.old limit done.now closed.old }
+    requires { CanClose found.old limit done.now reached.old }
     ensures moved { OnOk result (HasMoved done.now found.old found.new) }
-    ensures bounded { OnOk result (IsBounded found.old.list.members closed.old closed.new) }
-    ensures closure { IfOk result (λ agrees. agrees ≡ true → IsClosedBefore found.old.list.members found.new.buckets limit done.now closed.old closed.new) }
-    ensures differs { IfOk result (λ agrees. agrees ≡ false → Differs found.old.list.members limit done.now closed.old) }
+    ensures bounded { OnOk result (IsBounded found.old.list.members reached.old reached.new) }
+    ensures closure { IfOk result (λ agrees. agrees ≡ true → IsClosedBefore found.old.list.members found.new.buckets limit done.now reached.old reached.new) }
+    ensures differs { IfOk result (λ agrees. agrees ≡ false → Differs found.old.list.members limit done.now reached.old) }
 {
     let _width = found.width();
     let mut seen = *done;
-    while let Some(z) = closed.first_missing(&seen) {
-        if !settle(found, z, done, limit, closed)? {
+    while let Some(z) = reached.first_missing(&seen) {
+        if !settle(found, z, done, limit, reached)? {
             return Ok(false);
         }
         seen.insert(z);
@@ -42,27 +42,27 @@ fn settle<const W: usize>(
     z: u32,
     done: &Bits<W>,
     limit: u32,
-    closed: &mut Bits<W>,
+    reached: &mut Bits<W>,
 ) -> Result<bool, Memory>
-    requires room { length found.old.buckets ≡ length closed.old }
-    requires member { slice_index_or closed.old z false ≡ true }
-    requires above { within done.now closed.old ≡ true }
-    requires agree { agree_before limit done.now closed.old ≡ true }
+    requires room { length found.old.buckets ≡ length reached.old }
+    requires member { slice_index_or reached.old z false ≡ true }
+    requires above { within done.now reached.old ≡ true }
+    requires agree { agree_before limit done.now reached.old ≡ true }
     requires sorted { IsSorted found.old.buckets }
-    requires wide { (w : ℕ) → HaveWidth (length closed.old) (bucket w found.old.buckets) }
+    requires wide { (w : ℕ) → HaveWidth (length reached.old) (bucket w found.old.buckets) }
     ensures list { found.new.list ≡ found.old.list }
-    ensures settling { OnOk result (IsSettling z 0 closed.old closed.new found.old.buckets found.new.buckets) }
-    ensures finished { IfOk result (λ finished. finished ≡ true → list_all (λ i. within i.conclusion closed.new) (bucket z found.new.buckets) ≡ true) }
-    ensures agree { IfOk result (λ finished. finished ≡ agree_before limit done.now closed.new) }
+    ensures settling { OnOk result (IsSettling z 0 reached.old reached.new found.old.buckets found.new.buckets) }
+    ensures finished { IfOk result (λ finished. finished ≡ true → list_all (λ i. within i.conclusion reached.new) (bucket z found.new.buckets) ≡ true) }
+    ensures agree { IfOk result (λ finished. finished ≡ agree_before limit done.now reached.new) }
 {
     let _width = found.width();
     let mut k = 0;
     while k < found.count(z) {
-        match found.premise(z, k).first_missing(closed) {
+        match found.premise(z, k).first_missing(reached) {
             Some(other) => found.move_to(z, k, other)?,
             None => {
-                *closed = closed.join(&found.conclusion(z, k));
-                if !agrees(done, closed, limit) {
+                *reached = reached.join(&found.conclusion(z, k));
+                if !agrees(done, reached, limit) {
                     return Ok(false);
                 }
                 k += 1;

@@ -3,6 +3,7 @@
 #![tactic(auto)]
 
 mod closing;
+mod repetitions;
 mod tree;
 mod watched_list;
 
@@ -17,6 +18,7 @@ use derivation::{Rows, RowsOf};
 use extent_blocks::IndexedRows;
 use fca_model::Memory;
 use implication_closure::{ImplicationList, ImplicationListOf};
+use repetitions::without_repetitions;
 use std::alloc::Global;
 use tree::visit_all;
 pub use watched_list::WatchedList;
@@ -66,7 +68,7 @@ pub fn known_with_basis_in_words<const W: usize>(
     requires holds { list_all (holds rows) known.now.members ≡ true }
     ensures { IfOk result (λ list. list ≡ record { width = rows.entry.width; members = known.now.members ++ basis_known known.now.members rows.entry }) }
 {
-    let indexed = IndexedRows::new(alloc, rows)?;
+    let indexed = IndexedRows::new(alloc, without_repetitions(alloc, rows)?)?;
     let _width = indexed.rows().width();
     let least = known.naive_closure(&Attrs::empty(known.width()));
     let mut found = WatchedList::of(alloc, known, &least)?;

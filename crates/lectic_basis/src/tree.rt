@@ -123,28 +123,28 @@ fn next_below<const W: usize>(
     }
 }
 
-/// The step at the intent a, which comes of attribute i and the lists above. If no later attribute is to be tried, there is none, and no row is looked for.
+/// The step at the intent a, which comes of attribute i and the lists of the parent. None if no later attribute is to be tried: then no row is looked for.
 fn step_below<const W: usize>(
     alloc: Global,
     indexed: &IndexedRows<W>,
     a: &Bits<W>,
     i: u32,
-    above: &StepLists,
+    parent: &StepLists,
     spare: &mut Vec<StepLists>,
 ) -> Result<Option<Step<W>>, Memory>
     requires inside { i < indexed.now.width }
     requires wide { length a.now ≡ indexed.now.width }
-    requires near { IsExtentWith indexed.now a.now i above.now.near }
+    requires near { IsExtentWith indexed.now a.now i parent.now.near }
     ensures { IfOk result (λ step. MatchOption step
-        (NoneTried a.now above.now.forced.items (i + 1) indexed.now.width)
-        (IsBegun indexed.now a.now (i + 1) above.now.forced.items)) }
+        (NoneTried a.now parent.now.forced.items (i + 1) indexed.now.width)
+        (IsBegun indexed.now a.now (i + 1) parent.now.forced.items)) }
 {
     let width = indexed.rows().width();
-    let Some(last) = last_to_try(a, &above.forced, i + 1, width) else {
+    let Some(last) = last_to_try(a, &parent.forced, i + 1, width) else {
         return Ok(None);
     };
     let mut lists = take_spare(alloc, spare);
-    fill(&mut lists, indexed, a, i, above)?;
+    fill(&mut lists, indexed, a, i, parent)?;
     Ok(Some(Step {
         intent: *a,
         from: i + 1,
@@ -160,7 +160,7 @@ fn last_to_try<const W: usize>(a: &Bits<W>, forced: &[u32], from: u32, end: u32)
     ensures { MatchOption result (NoneTried a.now forced.now from end) (IsLastTried a.now forced.now from end) }
 {
     for i in (from..end).rev() {
-        if tries(a, forced, i) {
+        if is_tried(a, forced, i) {
             return Some(i);
         }
     }
@@ -168,7 +168,7 @@ fn last_to_try<const W: usize>(a: &Bits<W>, forced: &[u32], from: u32, end: u32)
 }
 
 /// Whether attribute i is tried below a: a lacks it, and it is not seen to force one before it that a lacks.
-fn tries<const W: usize>(a: &Bits<W>, forced: &[u32], i: u32) -> bool
+fn is_tried<const W: usize>(a: &Bits<W>, forced: &[u32], i: u32) -> bool
     requires { i < length a.now }
     ensures { result ≡ is_tried a.now forced.now i }
 {
@@ -297,22 +297,22 @@ fn take_spare(alloc: Global, spare: &mut Vec<StepLists>) -> StepLists {
     }
 }
 
-/// Fills the lists for the child a: the places of the rows that contain it, which are those above that have attribute i, and what attributes force.
+/// Fills the lists for the child a: the places of the rows that contain it, which are those of the parent that have attribute i, and what attributes force.
 fn fill<const W: usize>(
     lists: &mut StepLists,
     indexed: &IndexedRows<W>,
     a: &Bits<W>,
     i: u32,
-    above: &StepLists,
+    parent: &StepLists,
 ) -> Result<(), Memory>
     requires inside { i < indexed.now.width }
-    requires extent { IsExtentWith indexed.now a.now i above.now.near }
+    requires extent { IsExtentWith indexed.now a.now i parent.now.near }
     ensures near { OnOk result (IsExtent indexed.now a.now lists.new.near) }
-    ensures forced { OnOk result (lists.new.forced.items ≡ above.now.forced.items) }
+    ensures forced { OnOk result (lists.new.forced.items ≡ parent.now.forced.items) }
 {
-    lists.near.set_having(&above.near, indexed, i)?;
+    lists.near.set_having(&parent.near, indexed, i)?;
     lists.forced.clear();
-    lists.forced.extend_from_slice(&above.forced)?;
+    lists.forced.extend_from_slice(&parent.forced)?;
     Ok(())
 }
 

@@ -6,7 +6,7 @@ use Rattle.lectic_basis.proofs.closing.close.Given as goal
 abbrev pub invariant-loop-z : goal.invariant-loop-z
 invariant-loop-z g l = record {
   list : l.found.list ≡ l.fn.found.list;
-  closing : IsClosing l.fn.found.list.width l.fn.found.list.members l.limit l.done l.fn.closed l.seen l.closed l.fn.found.buckets
+  closing : IsClosing l.fn.found.list.width l.fn.found.list.members l.limit l.done l.fn.reached l.seen l.reached l.fn.found.buckets
       l.found.buckets;
 }
 

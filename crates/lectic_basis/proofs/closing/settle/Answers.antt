@@ -20,10 +20,10 @@ pub move_to-requires : goal.move_to-requires
 move_to-requires g c =
     let there : c.loop-k.k < length (bucket c.args.z c.loop-k.found.buckets) = omega (arith, c.loop-k-test.true, c.count.ensures) in
     let i : Rule = waiting_at c.args.z c.loop-k.k c.loop-k.found.buckets in
-    let parts = first_missing-parts i.premise c.loop-k.closed c.in-Some.other
-    (ap (λ P. first_missing 0 P c.loop-k.closed) (sym c.premise.ensures) ∙ sym c.first_missing.ensures ∙ c.in-Some.is) in
+    let parts = first_missing-parts i.premise c.loop-k.reached c.in-Some.other
+    (ap (λ P. first_missing 0 P c.loop-k.reached) (sym c.premise.ensures) ∙ sym c.first_missing.ensures ∙ c.in-Some.is) in
     let inside : c.args.z < length c.loop-k.found.buckets =
-    omega (arith, member_below c.args.closed.now c.args.z c.requires.member, c.requires.room, c.loop-k.invariant.settling.room) in
+    omega (arith, member_below c.args.reached.now c.args.z c.requires.member, c.requires.room, c.loop-k.invariant.settling.room) in
     let other_inside : c.in-Some.other < length c.loop-k.found.buckets =
     omega (
       arith,
@@ -33,16 +33,16 @@ move_to-requires g c =
       c.loop-k.invariant.settling.room,
     ) in
     let elsewhere : c.in-Some.other ≢ c.args.z = λ e. false≢true
-    (sym parts.1 ∙ ap (λ m. get_or c.loop-k.closed m false) e
-    ∙ within_at_place c.args.closed.now c.loop-k.closed c.loop-k.invariant.settling.up c.args.z c.requires.member) in
+    (sym parts.1 ∙ ap (λ m. get_or c.loop-k.reached m false) e
+    ∙ within_at_place c.args.reached.now c.loop-k.reached c.loop-k.invariant.settling.up c.args.z c.requires.member) in
     (omega arith, (inside, (other_inside, (there, elsewhere))))
 
 pub loop-k-preserved-in-Continue-1 : goal.loop-k-preserved-in-Continue-1
 loop-k-preserved-in-Continue-1 g c =
     let there : c.loop-k.k < length (bucket c.args.z c.loop-k.found.buckets) = omega (arith, c.loop-k-test.true, c.count.ensures) in
     let i : Rule = waiting_at c.args.z c.loop-k.k c.loop-k.found.buckets in
-    let parts = first_missing-parts i.premise c.loop-k.closed c.in-Some.other
-    (ap (λ P. first_missing 0 P c.loop-k.closed) (sym c.premise.ensures) ∙ sym c.first_missing.ensures ∙ c.in-Some.is) in
+    let parts = first_missing-parts i.premise c.loop-k.reached c.in-Some.other
+    (ap (λ P. first_missing 0 P c.loop-k.reached) (sym c.premise.ensures) ∙ sym c.first_missing.ensures ∙ c.in-Some.is) in
     record {
       list = c.move_to.ensures.list ∙ c.loop-k.invariant.list;
       settling = watch.settle_move c.loop-k.invariant.settling there c.in_ok-move_to-in-Some.ensures.moved parts.0 parts.1;
@@ -63,16 +63,16 @@ pub join-requires : goal.join-requires
 join-requires g c =
     let there : c.loop-k.k < length (bucket c.args.z c.loop-k.found.buckets) = omega (arith, c.loop-k-test.true, c.count.ensures) in (
       omega arith,
-      subst (λ X. length X ≤ length c.loop-k.closed) (sym c.conclusion.ensures)
+      subst (λ X. length X ≤ length c.loop-k.reached) (sym c.conclusion.ensures)
           (watch.join_fits c.loop-k.invariant.settling there c.requires.wide),
     )
 
 pub agrees-requires : goal.agrees-requires
 agrees-requires g c =
-    let D : Set = c.loop-k.closed in (
+    let D : Set = c.loop-k.reached in (
       omega (arith, c.width-width.ensures.words),
       within_trans c.args.done.now D c.join.result
-          (within_trans c.args.done.now c.args.closed.now D c.requires.above c.loop-k.invariant.settling.up)
+          (within_trans c.args.done.now c.args.reached.now D c.requires.above c.loop-k.invariant.settling.up)
           (subst (λ X. within D X ≡ true) (sym c.join.ensures) (within-join D c.conclusion.result)),
     )
 
@@ -80,22 +80,22 @@ pub returns-then-not-agrees-clause-settling : goal.returns-then-not-agrees-claus
 returns-then-not-agrees-clause-settling g c =
     let there : c.loop-k.k < length (bucket c.args.z c.loop-k.found.buckets) = omega (arith, c.loop-k-test.true, c.count.ensures) in
     let i : Rule = waiting_at c.args.z c.loop-k.k c.loop-k.found.buckets in
-    let inside : within i.premise c.loop-k.closed ≡ true =
-    first_missing_none 0 i.premise c.loop-k.closed
-    (ap (λ P. first_missing 0 P c.loop-k.closed) (sym c.premise.ensures) ∙ sym c.first_missing.ensures ∙ c.in-None.is) in
+    let inside : within i.premise c.loop-k.reached ≡ true =
+    first_missing_none 0 i.premise c.loop-k.reached
+    (ap (λ P. first_missing 0 P c.loop-k.reached) (sym c.premise.ensures) ∙ sym c.first_missing.ensures ∙ c.in-None.is) in
     let joined = watch.settle_join c.loop-k.invariant.settling there c.requires.wide inside
-    (c.join.ensures ∙ ap (join c.loop-k.closed) c.conclusion.ensures) in
+    (c.join.ensures ∙ ap (join c.loop-k.reached) c.conclusion.ensures) in
     watch.settle_any joined
 
 pub loop-k-preserved : goal.loop-k-preserved
 loop-k-preserved g c =
     let there : c.loop-k.k < length (bucket c.args.z c.loop-k.found.buckets) = omega (arith, c.loop-k-test.true, c.count.ensures) in
     let i : Rule = waiting_at c.args.z c.loop-k.k c.loop-k.found.buckets in
-    let inside : within i.premise c.loop-k.closed ≡ true =
-    first_missing_none 0 i.premise c.loop-k.closed
-    (ap (λ P. first_missing 0 P c.loop-k.closed) (sym c.premise.ensures) ∙ sym c.first_missing.ensures ∙ c.in-None.is) in
+    let inside : within i.premise c.loop-k.reached ≡ true =
+    first_missing_none 0 i.premise c.loop-k.reached
+    (ap (λ P. first_missing 0 P c.loop-k.reached) (sym c.premise.ensures) ∙ sym c.first_missing.ensures ∙ c.in-None.is) in
     let joined = watch.settle_join c.loop-k.invariant.settling there c.requires.wide inside
-    (c.join.ensures ∙ ap (join c.loop-k.closed) c.conclusion.ensures) in
+    (c.join.ensures ∙ ap (join c.loop-k.reached) c.conclusion.ensures) in
     record { list = c.loop-k.invariant.list; settling = joined; agree = sym c.agrees.ensures ∙ c.if-not-agrees.false }
 
 pub returns-clause-list : goal.returns-clause-list
@@ -106,7 +106,7 @@ returns-clause-settling g c = watch.settle_any c.loop-k.invariant.settling
 
 pub returns-clause-finished : goal.returns-clause-finished
 returns-clause-finished g c e =
-    sym (ap (list_all (λ (i : Rule). within i.conclusion c.loop-k.closed))
+    sym (ap (list_all (λ (i : Rule). within i.conclusion c.loop-k.reached))
     (take_all c.loop-k.k (bucket c.args.z c.loop-k.found.buckets) (omega (arith, c.loop-k-test.false, c.count.ensures))))
     ∙ c.loop-k.invariant.settling.taken
 

@@ -6,8 +6,8 @@ use Rattle.lectic_basis.proofs.closing.settle.Given as goal
 abbrev pub invariant-loop-k : goal.invariant-loop-k
 invariant-loop-k g l = record {
   list : l.found.list ≡ l.fn.found.list;
-  settling : IsSettling l.z l.k l.fn.closed l.closed l.fn.found.buckets l.found.buckets;
-  agree : agree_before l.limit l.done l.closed ≡ true;
+  settling : IsSettling l.z l.k l.fn.reached l.reached l.fn.found.buckets l.found.buckets;
+  agree : agree_before l.limit l.done l.reached ≡ true;
 }
 
 abbrev pub decreases-loop-k : goal.decreases-loop-k

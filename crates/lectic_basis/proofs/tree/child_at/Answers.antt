@@ -25,7 +25,7 @@ returns-then-not-branch-clause-kept g c =
     let list : c.close.new.found.list ≡ c.args.found.now.list = c.in_ok-close.ensures.moved.list in
     subst (λ (M : RuleList). AreForced M.members c.args.a.now c.note.new.forced.items) (sym list)
     (c.note.ensures c.args.found.now.list.members
-    (subst (λ X. IsBounded c.args.found.now.list.members X c.close.new.closed) c.with-reached.ensures c.in_ok-close.ensures.bounded)
+    (subst (λ X. IsBounded c.args.found.now.list.members X c.close.new.reached) c.with-reached.ensures c.in_ok-close.ensures.bounded)
     c.requires.forced)
 
 pub closure_among-closed-requires : goal.closure_among-closed-requires
@@ -73,7 +73,7 @@ returns-in-None-clause-kept g c =
     let M = c.visit.new.found.list.members in
     let list : c.close.new.found.list ≡ c.args.found.now.list = c.in_ok-close.ensures.moved.list in
     let more : IsLonger J M = subst (λ (L : RuleList). IsLonger L.members M) list c.in_ok-child.ensures.more in
-    let reached = subst (λ X. IsBounded J X c.close.new.closed) c.with-reached.ensures c.in_ok-close.ensures.bounded in
+    let reached = subst (λ X. IsBounded J X c.close.new.reached) c.with-reached.ensures c.in_ok-close.ensures.bounded in
     c.note-in-None.ensures M (bounded_more J M _ _ _ more reached c.in_ok-child.ensures.bounded)
     (forced_more J M c.args.a.now c.args.lists.now.forced.items more c.requires.forced)
 
@@ -86,7 +86,7 @@ pub returns-in-Some-clause-near : goal.returns-in-Some-clause-near
 returns-in-Some-clause-near g c =
     let closed = c.in_ok-close.ensures.closure c.if-not-branch.false in
     let lacks = c.requires.lacks in
-    told_extent c.args.indexed.now c.close.new.closed c.args.i c.args.lists.now.near (Some c.in-Some.intent)
+    told_extent c.args.indexed.now c.close.new.reached c.args.i c.args.lists.now.near (Some c.in-Some.intent)
     (below_extent c.requires.trying lacks c.with-reached.ensures c.in_ok-close.ensures.moved closed c.args.lists.now.near c.requires.near)
     (rw c.in-Some.is at c.in_ok-child.ensures.larger) (rw c.in-Some.is at c.in_ok-child.ensures.shared)
 
@@ -105,7 +105,7 @@ returns-in-Some-clause-kept g c =
 pub returns-in-Some-clause-passed : goal.returns-in-Some-clause-passed
 returns-in-Some-clause-passed g c =
     let closed = c.in_ok-close.ensures.closure c.if-not-branch.false in
-    told_forced c.visit.new.found.list.members c.args.a.now c.close.new.closed c.args.lists.now.forced.items (Some c.in-Some.intent)
+    told_forced c.visit.new.found.list.members c.args.a.now c.close.new.reached c.args.lists.now.forced.items (Some c.in-Some.intent)
     (returns-in-Some-clause-kept g c)
-    (below_up c.args.a.now c.with-reached.result c.close.new.closed c.args.i c.args.found.now.list.members c.with-reached.ensures
+    (below_up c.args.a.now c.with-reached.result c.close.new.reached c.args.i c.args.found.now.list.members c.with-reached.ensures
     closed.closure) (rw c.in-Some.is at c.in_ok-child.ensures.larger)

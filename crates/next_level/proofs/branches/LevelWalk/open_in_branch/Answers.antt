@@ -58,11 +58,11 @@ returns-then-size-limits-clause-listed g c =
     let root = rules.inside 0 (omega arith) in
     let lacks = sym c.has.ensures ∙ c.if-has.false in
     let closed = c.in_ok-close.ensures.closure c.if-not-branch.false in
-    let closure = subst (λ X. IsClosure c.in_ok-rules.rules.list.members X c.close.new.closed) c.with-reached.ensures closed.closure in
+    let closure = subst (λ X. IsClosure c.in_ok-rules.rules.list.members X c.close.new.reached) c.with-reached.ensures closed.closure in
     concerning_listed c.args.self.now.root c.args.i (in_branch c.args.i c.args.self.now.least)
     (λ X up p. (branch_parts c.args.self.now.least c.args.i (omega (arith, root_wide c.args.self.now.root, c.requires)) X p).1)
     c.in_ok-rules.rules.list rules.list _ _
-    (branch_larger root c.args.i c.requires lacks c.close.new.closed closure c.new-seen.result.bound c.new-seen.result.members.items
+    (branch_larger root c.args.i c.requires lacks c.close.new.reached closure c.new-seen.result.bound c.new-seen.result.members.items
     (omega (arith, c.size.ensures.size, c.if-size-limits.true, c.new-seen.ensures.bound)) c.new-seen.ensures.members)
 
 pub child_among-requires : goal.child_among-requires
@@ -102,14 +102,14 @@ enter_all-requires g c =
     let root = rules.inside 0 (omega arith) in
     let lacks = sym c.has.ensures ∙ c.if-has.false in
     let closed = c.in_ok-close.ensures.closure c.if-not-branch.false in
-    let closure = subst (λ X. IsClosure c.in_ok-rules.rules.list.members X c.close.new.closed) c.with-reached.ensures closed.closure in
+    let closure = subst (λ X. IsClosure c.in_ok-rules.rules.list.members X c.close.new.reached) c.with-reached.ensures closed.closure in
     let moved = c.in_ok-close.ensures.moved in
     let at = (left_entered (branch_trying root c.args.i c.requires lacks 0) lacks c.with-reached.ensures moved closed).at in
     let put = c.in_ok-push_to_wait.ensures in
     let seen = c.new-seen.result in
-    let entered = branch_entered root c.args.i c.requires lacks c.close.new.closed closure closed.agree _ refl refl at moved.list
+    let entered = branch_entered root c.args.i c.requires lacks c.close.new.reached closure closed.agree _ refl refl at moved.list
     c.push_to_wait.new.self put.list put.put seen.bound seen.members.items c.new-seen.ensures.members in
-    let among = branch_among root c.args.i c.requires lacks c.close.new.closed closure closed.agree _ refl refl at moved.list
+    let among = branch_among root c.args.i c.requires lacks c.close.new.reached closure closed.agree _ refl refl at moved.list
     c.push_to_wait.new.self put.list put.put
     c.in_ok-part.part.whole c.in_ok-part.part.sets.items c.in_ok-part.ensures in (
       omega arith,
@@ -131,7 +131,7 @@ returns-clause-listed g c =
     let root = rules.inside 0 (omega arith) in
     let lacks = sym c.has.ensures ∙ c.if-has.false in
     let closed = c.in_ok-close.ensures.closure c.if-not-branch.false in
-    let closure = subst (λ X. IsClosure c.in_ok-rules.rules.list.members X c.close.new.closed) c.with-reached.ensures closed.closure in
+    let closure = subst (λ X. IsClosure c.in_ok-rules.rules.list.members X c.close.new.reached) c.with-reached.ensures closed.closure in
     let moved = c.in_ok-close.ensures.moved in
     let at = (left_entered (branch_trying root c.args.i c.requires lacks 0) lacks c.with-reached.ensures moved closed).at in
     let put = c.in_ok-push_to_wait.ensures in
@@ -139,6 +139,6 @@ returns-clause-listed g c =
     concerning_listed c.args.self.now.root c.args.i (in_branch c.args.i c.args.self.now.least)
     (λ X up p. (branch_parts c.args.self.now.least c.args.i (omega (arith, root_wide c.args.self.now.root, c.requires)) X p).1)
     c.in_ok-rules.rules.list rules.list _ _
-    (branch_done root c.args.i c.requires lacks c.close.new.closed closure closed.agree _ refl refl at moved.list
+    (branch_done root c.args.i c.requires lacks c.close.new.reached closure closed.agree _ refl refl at moved.list
     c.push_to_wait.new.self put.list put.put
     c.enter_all.new.seen.bound c.enter_all.new.seen.members.items c.enter_all.new.rules.list level.list level.level)
