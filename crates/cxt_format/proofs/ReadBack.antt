@@ -2,7 +2,7 @@
 -- after the other: of each it makes what the line was written for, and it leaves the rest. Where there are no attributes, the empty
 -- lines of the rows are the blank lines at the end.
 use Rattle.std.proofs.Common.{◌≡◌, ◌∙◌, ◌<◌, ◌≤◌, ◌+◌, ◌^◌, ◌==◌, ◌++◌, ◌∷◌, [], ℕ, zero, suc, List, true, Option, Some, None, Result, Ok}
-use Rattle.std.proofs.Common.{All, length, map, bytes_eq, refl, sym, ap, subst, append_assoc, eq-eqb, inl, inr, arith}
+use Rattle.std.proofs.Common.{length, map, bytes_eq, refl, sym, ap, subst, append_assoc, eq-eqb, inl, inr, arith}
 use Rattle.std.proofs.lemmas.Bool.{cases_Bool}
 use Rattle.std.proofs.lemmas.List.{append-nil}
 use Rattle.std.proofs.lemmas.Str.{utf8_valid_len-IsUtf8}

@@ -5,5 +5,5 @@ use Rattle.std.specs.Simd.Lanes.{mask_l}
 use Rattle.text_pieces.specs.Marks.{is_cross, is_mark}
 
 -- the crosses of the cells as the bits of a number, from the lowest on, if each cell is a mark
-abbrev pub crosses_of : List ℕ → Option ℕ
-crosses_of cells = cond (list_all is_mark cells) (Some (mask_l (map is_cross cells))) None
+abbrev pub crosses_if_marks : List ℕ → Option ℕ
+crosses_if_marks cells = cond (list_all is_mark cells) (Some (mask_l (map is_cross cells))) None

@@ -5,7 +5,7 @@ ghost use Rattle.cxt_format.specs.Words as form;
 ghost use Rattle.text_pieces.specs.Telling.{Tells};
 
 use crate::CxtFault;
-use crate::cells::set_of_cells;
+use crate::cells::set_if_marks;
 use attr_bits::Bits;
 use fca_model::{MAX_ATTRIBUTES, Name, NameFault};
 use std::alloc::Global;
@@ -68,7 +68,7 @@ pub fn row_of<const W: usize>(width: u32, number: usize, line: &[u8]) -> Result<
         return Err(CxtFault::BadRow(number));
     }
     let (cells, rest) = line.split_at(width as usize);
-    match set_of_cells(cells) {
+    match set_if_marks(cells) {
         Some(row) if is_blank_line(rest) => Ok(row),
         _ => Err(CxtFault::BadRow(number)),
     }

@@ -1,4 +1,4 @@
-use Rattle.std.proofs.Common.{◌≡◌, ◌⊎◌, ◌∙◌, ◌+◌, ◌++◌, ◌∷◌, ℕ, [], Err, sym, ap, inl, inr}
+use Rattle.std.proofs.Common.{◌≡◌, ◌⊎◌, ◌∙◌, ◌+◌, ℕ, [], Err, sym, ap, inl, inr}
 use Rattle.std.proofs.lemmas.List.{length_push}
 use Rattle.fca_model.specs.Context.{Context}
 use Rattle.cxt_format.specs.Form.{next_row, rows_form}
