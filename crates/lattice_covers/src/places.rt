@@ -43,7 +43,7 @@ fn slot_of<const W: usize>(new: &Bits<W>) -> usize {
     match new.next_member(0) {
         None => 0,
         Some(first) => {
-            let second = new.next_member(first + 1).unwrap_or(0);
+            let second = new.next_member(first.saturating_add(1)).unwrap_or(0);
             SECONDS * first as usize + second as usize % SECONDS
         }
     }
