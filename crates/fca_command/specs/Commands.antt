@@ -25,51 +25,51 @@ wants_json (word ∷ []) = cond (bytes_eq word (codes "--json")) (Some true) Non
 wants_json _ = None
 
 -- `concepts F`, `concepts F --json`
-abbrev pub concepts_command : Text → List Text → Option Command
-concepts_command file later = option_map (λ json. Concepts file json) (wants_json later)
+abbrev pub concepts_call : Text → List Text → Option Command
+concepts_call file later = option_map (λ json. Concepts file json) (wants_json later)
 
 -- `lattice F`
-abbrev pub lattice_command : Text → List Text → Option Command
-lattice_command file [] = Some (Lattice file)
-lattice_command file _ = None
+abbrev pub lattice_call : Text → List Text → Option Command
+lattice_call file [] = Some (Lattice file)
+lattice_call file _ = None
 
 -- `basis F`, `basis F --json`
-abbrev pub basis_command : Text → List Text → Option Command
-basis_command file later = option_map (λ json. Basis file json) (wants_json later)
+abbrev pub basis_call : Text → List Text → Option Command
+basis_call file later = option_map (λ json. Basis file json) (wants_json later)
 
 -- `direct F`
-abbrev pub direct_command : Text → List Text → Option Command
-direct_command file [] = Some (Direct file)
-direct_command file _ = None
+abbrev pub direct_call : Text → List Text → Option Command
+direct_call file [] = Some (Direct file)
+direct_call file _ = None
 
 -- `follows F A B`
-abbrev pub follows_command : Text → List Text → Option Command
-follows_command file (premise ∷ conclusion ∷ []) = Some (Follows file premise conclusion)
-follows_command file _ = None
+abbrev pub follows_call : Text → List Text → Option Command
+follows_call file (premise ∷ conclusion ∷ []) = Some (Follows file premise conclusion)
+follows_call file _ = None
 
 -- the form of a table that a word names
 abbrev pub form_of : Text → Option Form
 form_of word = cond (bytes_eq word (codes "cxt")) (Some Cxt) (cond (bytes_eq word (codes "csv")) (Some Csv) None)
 
 -- `convert F cxt`, `convert F csv`
-abbrev pub convert_command : Text → List Text → Option Command
-convert_command file (word ∷ []) = option_map (λ to. Convert file to) (form_of word)
-convert_command file _ = None
+abbrev pub convert_call : Text → List Text → Option Command
+convert_call file (word ∷ []) = option_map (λ to. Convert file to) (form_of word)
+convert_call file _ = None
 
 -- `reduce F`
-abbrev pub reduce_command : Text → List Text → Option Command
-reduce_command file [] = Some (Reduce file)
-reduce_command file _ = None
+abbrev pub reduce_call : Text → List Text → Option Command
+reduce_call file [] = Some (Reduce file)
+reduce_call file _ = None
 
 -- `arrows F`
-abbrev pub arrows_command : Text → List Text → Option Command
-arrows_command file [] = Some (Arrows file)
-arrows_command file _ = None
+abbrev pub arrows_call : Text → List Text → Option Command
+arrows_call file [] = Some (Arrows file)
+arrows_call file _ = None
 
 -- `scale F P`
-abbrev pub scale_command : Text → List Text → Option Command
-scale_command values (plan ∷ []) = cond (bytes_eq plan []) None (Some (Scale values plan))
-scale_command values _ = None
+abbrev pub scale_call : Text → List Text → Option Command
+scale_call values (plan ∷ []) = cond (bytes_eq plan []) None (Some (Scale values plan))
+scale_call values _ = None
 
 -- the command with this known file, if no word is left
 abbrev pub replay_by : Text → Option Text → List Text → Option Command
@@ -77,18 +77,18 @@ replay_by file known [] = Some (Replay file known)
 replay_by file known _ = None
 
 -- `replay F`, `replay F --known S`
-abbrev pub replay_command : Text → List Text → Option Command
-replay_command file later = replay_by file (known_file later) (behind_known later)
+abbrev pub replay_call : Text → List Text → Option Command
+replay_call file later = replay_by file (known_file later) (behind_known later)
 
 -- `explore F --expert G ..`, with `--known S`, `--names` or both before the experts
-abbrev pub explore_command : Text → List Text → Option Command
-explore_command file later =
+abbrev pub explore_call : Text → List Text → Option Command
+explore_call file later =
     option_map (λ experts. Explore file (known_file later) (wants_names (behind_known later)) experts)
     (experts_of (behind_names (behind_known later)))
 
 -- `serve F --experts N --listen A`, with `--known S` before the experts, `--holders H` after them, or both
-abbrev pub serve_command : Text → List Text → Option Command
-serve_command file later =
+abbrev pub serve_call : Text → List Text → Option Command
+serve_call file later =
     option_map (λ s. Serve file (known_file later) s.0 s.1 s.2) (serving_of (behind_known later))
 
 -- ---- all commands
@@ -96,27 +96,27 @@ serve_command file later =
 -- the command of this name over a file, which reads more than the table
 abbrev pub further_files_command : Text → Text → List Text → Option Command
 further_files_command name file later =
-    cond (bytes_eq name (codes "scale")) (scale_command file later)
-    (cond (bytes_eq name (codes "replay")) (replay_command file later)
-    (cond (bytes_eq name (codes "explore")) (explore_command file later)
-    (cond (bytes_eq name (codes "serve")) (serve_command file later) None)))
+    cond (bytes_eq name (codes "scale")) (scale_call file later)
+    (cond (bytes_eq name (codes "replay")) (replay_call file later)
+    (cond (bytes_eq name (codes "explore")) (explore_call file later)
+    (cond (bytes_eq name (codes "serve")) (serve_call file later) None)))
 
 -- the command of this name over a file that `file_command` does not have first
 abbrev pub table_command : Text → Text → List Text → Option Command
 table_command name file later =
-    cond (bytes_eq name (codes "follows")) (follows_command file later)
-    (cond (bytes_eq name (codes "convert")) (convert_command file later)
-    (cond (bytes_eq name (codes "reduce")) (reduce_command file later)
-    (cond (bytes_eq name (codes "arrows")) (arrows_command file later) (further_files_command name file later))))
+    cond (bytes_eq name (codes "follows")) (follows_call file later)
+    (cond (bytes_eq name (codes "convert")) (convert_call file later)
+    (cond (bytes_eq name (codes "reduce")) (reduce_call file later)
+    (cond (bytes_eq name (codes "arrows")) (arrows_call file later) (further_files_command name file later))))
 
 -- the command of this name over a file, whose name is not empty
 abbrev pub file_command : Text → Text → List Text → Option Command
 file_command name file later =
     cond (bytes_eq file []) None
-    (cond (bytes_eq name (codes "concepts")) (concepts_command file later)
-    (cond (bytes_eq name (codes "lattice")) (lattice_command file later)
-    (cond (bytes_eq name (codes "basis")) (basis_command file later)
-    (cond (bytes_eq name (codes "direct")) (direct_command file later) (table_command name file later)))))
+    (cond (bytes_eq name (codes "concepts")) (concepts_call file later)
+    (cond (bytes_eq name (codes "lattice")) (lattice_call file later)
+    (cond (bytes_eq name (codes "basis")) (basis_call file later)
+    (cond (bytes_eq name (codes "direct")) (direct_call file later) (table_command name file later)))))
 
 -- the command of this name over the file that the next word names
 abbrev pub over_file : Text → List Text → Option Command
@@ -124,23 +124,23 @@ over_file name [] = None
 over_file name (file ∷ later) = file_command name file later
 
 -- `make S O M D`
-abbrev pub make_command : List Text → Option Command
-make_command (seed ∷ objects ∷ attributes ∷ density ∷ []) =
+abbrev pub make_call : List Text → Option Command
+make_call (seed ∷ objects ∷ attributes ∷ density ∷ []) =
     option_map (λ r. Make r.seed r.objects r.attributes r.density) (recipe_of MAX_ATTRIBUTES seed objects attributes density)
-make_command _ = None
+make_call _ = None
 
 -- `survey S O M D E`
-abbrev pub survey_command : List Text → Option Command
-survey_command (seed ∷ objects ∷ attributes ∷ density ∷ experts ∷ []) =
+abbrev pub survey_call : List Text → Option Command
+survey_call (seed ∷ objects ∷ attributes ∷ density ∷ experts ∷ []) =
     option_and_then (λ r. option_map (λ count. Survey r.seed r.objects r.attributes r.density count) (expert_count experts))
     (recipe_of MAX_SURVEYED seed objects attributes density)
-survey_command _ = None
+survey_call _ = None
 
 -- the command of this name, by the words after it
 abbrev pub named_command : Text → List Text → Option Command
 named_command name later =
-    cond (bytes_eq name (codes "make")) (make_command later)
-    (cond (bytes_eq name (codes "survey")) (survey_command later) (over_file name later))
+    cond (bytes_eq name (codes "make")) (make_call later)
+    (cond (bytes_eq name (codes "survey")) (survey_call later) (over_file name later))
 
 abbrev pub text_command : List Text → Option Command
 text_command [] = None

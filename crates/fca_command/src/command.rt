@@ -5,10 +5,10 @@ ghost use Rattle.std.specs.List.{list_all};
 ghost use Rattle.std.specs.Str.{is_utf8};
 ghost use Rattle.fca_command.specs.Commands.{command_form, text_command, named_command, over_file, file_command, table_command};
 ghost use Rattle.fca_command.specs.Commands.{further_files_command};
-ghost use Rattle.fca_command.specs.Commands.{concepts_command, lattice_command, basis_command, direct_command, follows_command, wants_json};
-ghost use Rattle.fca_command.specs.Commands.{convert_command, form_of, reduce_command, arrows_command, scale_command, make_command};
-ghost use Rattle.fca_command.specs.Commands.{survey_command};
-ghost use Rattle.fca_command.specs.Commands.{replay_command, explore_command, serve_command, report_file, files_of, first_file_of};
+ghost use Rattle.fca_command.specs.Commands.{concepts_call, lattice_call, basis_call, direct_call, follows_call, wants_json};
+ghost use Rattle.fca_command.specs.Commands.{convert_call, form_of, reduce_call, arrows_call, scale_call, make_call};
+ghost use Rattle.fca_command.specs.Commands.{survey_call};
+ghost use Rattle.fca_command.specs.Commands.{replay_call, explore_call, serve_call, report_file, files_of, first_file_of};
 ghost use Rattle.fca_command.specs.Commands.{waits_for_nobody, IsWithinLimits};
 
 use crate::experts::{expert_count, experts_of};
@@ -200,16 +200,16 @@ fn named_command(alloc: Global, name: &[u8], later: &[Word]) -> Result<Option<Co
     ensures limits { IfOk result (λ command. IfSome command IsWithinLimits) }
 {
     if name == b"make".as_slice() {
-        Ok(make_command(later))
+        Ok(make_call(later))
     } else if name == b"survey".as_slice() {
-        Ok(survey_command(later))
+        Ok(survey_call(later))
     } else {
         over_file(alloc, name, later)
     }
 }
 
-fn make_command(later: &[Word]) -> Option<Command>
-    ensures command { result ≡ make_command later.now }
+fn make_call(later: &[Word]) -> Option<Command>
+    ensures command { result ≡ make_call later.now }
     ensures limits { IfSome result IsWithinLimits }
 {
     let [seed, objects, attributes, density] = later else {
@@ -224,8 +224,8 @@ fn make_command(later: &[Word]) -> Option<Command>
     })
 }
 
-fn survey_command(later: &[Word]) -> Option<Command>
-    ensures command { result ≡ survey_command later.now }
+fn survey_call(later: &[Word]) -> Option<Command>
+    ensures command { result ≡ survey_call later.now }
     ensures limits { IfSome result IsWithinLimits }
 {
     let [seed, objects, attributes, density, experts] = later else {
@@ -268,13 +268,13 @@ fn file_command(
     }
     let file = Word::new(alloc, file.bytes())?;
     if name == b"concepts".as_slice() {
-        Ok(concepts_command(file, later))
+        Ok(concepts_call(file, later))
     } else if name == b"lattice".as_slice() {
-        Ok(lattice_command(file, later))
+        Ok(lattice_call(file, later))
     } else if name == b"basis".as_slice() {
-        Ok(basis_command(file, later))
+        Ok(basis_call(file, later))
     } else if name == b"direct".as_slice() {
-        Ok(direct_command(file, later))
+        Ok(direct_call(file, later))
     } else {
         table_command(alloc, name, file, later)
     }
@@ -291,13 +291,13 @@ fn table_command(
     ensures limits { IfOk result (λ command. IfSome command IsWithinLimits) }
 {
     if name == b"follows".as_slice() {
-        follows_command(alloc, file, later)
+        follows_call(alloc, file, later)
     } else if name == b"convert".as_slice() {
-        Ok(convert_command(file, later))
+        Ok(convert_call(file, later))
     } else if name == b"reduce".as_slice() {
-        Ok(reduce_command(file, later))
+        Ok(reduce_call(file, later))
     } else if name == b"arrows".as_slice() {
-        Ok(arrows_command(file, later))
+        Ok(arrows_call(file, later))
     } else {
         further_files_command(alloc, name, file, later)
     }
@@ -314,28 +314,28 @@ fn further_files_command(
     ensures limits { IfOk result (λ command. IfSome command IsWithinLimits) }
 {
     if name == b"scale".as_slice() {
-        scale_command(alloc, file, later)
+        scale_call(alloc, file, later)
     } else if name == b"replay".as_slice() {
-        replay_command(alloc, file, later)
+        replay_call(alloc, file, later)
     } else if name == b"explore".as_slice() {
-        explore_command(alloc, file, later)
+        explore_call(alloc, file, later)
     } else if name == b"serve".as_slice() {
-        serve_command(alloc, file, later)
+        serve_call(alloc, file, later)
     } else {
         Ok(None)
     }
 }
 
-fn concepts_command(file: Word, later: &[Word]) -> Option<Command>
-    ensures command { result ≡ concepts_command file later.now }
+fn concepts_call(file: Word, later: &[Word]) -> Option<Command>
+    ensures command { result ≡ concepts_call file later.now }
     ensures limits { IfSome result IsWithinLimits }
 {
     let json = wants_json(later)?;
     Some(Command::Concepts { file, json })
 }
 
-fn lattice_command(file: Word, later: &[Word]) -> Option<Command>
-    ensures command { result ≡ lattice_command file later.now }
+fn lattice_call(file: Word, later: &[Word]) -> Option<Command>
+    ensures command { result ≡ lattice_call file later.now }
     ensures limits { IfSome result IsWithinLimits }
 {
     match later {
@@ -344,8 +344,8 @@ fn lattice_command(file: Word, later: &[Word]) -> Option<Command>
     }
 }
 
-fn basis_command(file: Word, later: &[Word]) -> Option<Command>
-    ensures command { result ≡ basis_command file later.now }
+fn basis_call(file: Word, later: &[Word]) -> Option<Command>
+    ensures command { result ≡ basis_call file later.now }
     ensures limits { IfSome result IsWithinLimits }
 {
     let json = wants_json(later)?;
@@ -363,8 +363,8 @@ fn wants_json(words: &[Word]) -> Option<bool>
     }
 }
 
-fn direct_command(file: Word, later: &[Word]) -> Option<Command>
-    ensures command { result ≡ direct_command file later.now }
+fn direct_call(file: Word, later: &[Word]) -> Option<Command>
+    ensures command { result ≡ direct_call file later.now }
     ensures limits { IfSome result IsWithinLimits }
 {
     match later {
@@ -373,8 +373,8 @@ fn direct_command(file: Word, later: &[Word]) -> Option<Command>
     }
 }
 
-fn follows_command(alloc: Global, file: Word, later: &[Word]) -> Result<Option<Command>, Memory>
-    ensures command { IfOk result (λ command. command ≡ follows_command file later.now) }
+fn follows_call(alloc: Global, file: Word, later: &[Word]) -> Result<Option<Command>, Memory>
+    ensures command { IfOk result (λ command. command ≡ follows_call file later.now) }
     ensures limits { IfOk result (λ command. IfSome command IsWithinLimits) }
 {
     let [premise, conclusion] = later else {
@@ -389,8 +389,8 @@ fn follows_command(alloc: Global, file: Word, later: &[Word]) -> Result<Option<C
     }))
 }
 
-fn convert_command(file: Word, later: &[Word]) -> Option<Command>
-    ensures command { result ≡ convert_command file later.now }
+fn convert_call(file: Word, later: &[Word]) -> Option<Command>
+    ensures command { result ≡ convert_call file later.now }
     ensures limits { IfSome result IsWithinLimits }
 {
     let [word] = later else {
@@ -413,8 +413,8 @@ fn form_of(word: &[u8]) -> Option<Form>
     }
 }
 
-fn reduce_command(file: Word, later: &[Word]) -> Option<Command>
-    ensures command { result ≡ reduce_command file later.now }
+fn reduce_call(file: Word, later: &[Word]) -> Option<Command>
+    ensures command { result ≡ reduce_call file later.now }
     ensures limits { IfSome result IsWithinLimits }
 {
     match later {
@@ -423,8 +423,8 @@ fn reduce_command(file: Word, later: &[Word]) -> Option<Command>
     }
 }
 
-fn arrows_command(file: Word, later: &[Word]) -> Option<Command>
-    ensures command { result ≡ arrows_command file later.now }
+fn arrows_call(file: Word, later: &[Word]) -> Option<Command>
+    ensures command { result ≡ arrows_call file later.now }
     ensures limits { IfSome result IsWithinLimits }
 {
     match later {
@@ -433,8 +433,8 @@ fn arrows_command(file: Word, later: &[Word]) -> Option<Command>
     }
 }
 
-fn scale_command(alloc: Global, file: Word, later: &[Word]) -> Result<Option<Command>, Memory>
-    ensures command { IfOk result (λ command. command ≡ scale_command file later.now) }
+fn scale_call(alloc: Global, file: Word, later: &[Word]) -> Result<Option<Command>, Memory>
+    ensures command { IfOk result (λ command. command ≡ scale_call file later.now) }
     ensures limits { IfOk result (λ command. IfSome command IsWithinLimits) }
 {
     let [plan] = later else {
@@ -447,8 +447,8 @@ fn scale_command(alloc: Global, file: Word, later: &[Word]) -> Result<Option<Com
     Ok(Some(Command::Scale { values: file, plan }))
 }
 
-fn replay_command(alloc: Global, file: Word, later: &[Word]) -> Result<Option<Command>, Memory>
-    ensures command { IfOk result (λ command. command ≡ replay_command file later.now) }
+fn replay_call(alloc: Global, file: Word, later: &[Word]) -> Result<Option<Command>, Memory>
+    ensures command { IfOk result (λ command. command ≡ replay_call file later.now) }
     ensures limits { IfOk result (λ command. IfSome command IsWithinLimits) }
 {
     let (known, rest) = split_known(later);
@@ -459,8 +459,8 @@ fn replay_command(alloc: Global, file: Word, later: &[Word]) -> Result<Option<Co
     Ok(Some(Command::Replay { file, known }))
 }
 
-fn explore_command(alloc: Global, file: Word, later: &[Word]) -> Result<Option<Command>, Memory>
-    ensures command { IfOk result (λ command. command ≡ explore_command file later.now) }
+fn explore_call(alloc: Global, file: Word, later: &[Word]) -> Result<Option<Command>, Memory>
+    ensures command { IfOk result (λ command. command ≡ explore_call file later.now) }
     ensures limits { IfOk result (λ command. IfSome command IsWithinLimits) }
 {
     let (known, rest) = split_known(later);
@@ -477,8 +477,8 @@ fn explore_command(alloc: Global, file: Word, later: &[Word]) -> Result<Option<C
     }))
 }
 
-fn serve_command(alloc: Global, file: Word, later: &[Word]) -> Result<Option<Command>, Memory>
-    ensures command { IfOk result (λ command. command ≡ serve_command file later.now) }
+fn serve_call(alloc: Global, file: Word, later: &[Word]) -> Result<Option<Command>, Memory>
+    ensures command { IfOk result (λ command. command ≡ serve_call file later.now) }
     ensures limits { IfOk result (λ command. IfSome command IsWithinLimits) }
 {
     let (known, rest) = split_known(later);
