@@ -43,7 +43,7 @@ settings_read (Some file) S table said = then (of_first_version said.second said
 
 -- An exploration of the table may be opened with these settings, and a text can spell them: what is known has the table's width, and every
 -- row respects it
-pub record MayReplay (table : NamedContext) (s : told.Settings) : Type 0 where
+pub record MayOpenReplay (table : NamedContext) (s : told.Settings) : Type 0 where
   pub width : s.known.width ≡ table.context.width
   pub respected : first_break s.known.members 0 table.context.rows ≡ None
   pub writable : SettingsCanBeWritten table.context.width (settings_of s)

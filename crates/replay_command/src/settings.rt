@@ -11,7 +11,7 @@ ghost use Rattle.expert_scripts.specs.declared.fault.ScriptFault.TheVariants.{Ba
 ghost use Rattle.command_io.specs.Readings.Reading.{Refused, Read};
 ghost use Rattle.command_io.specs.Known.{IsBreakStop};
 ghost use Rattle.command_io.specs.declared.stop.Origin.TheVariants.{Input};
-ghost use Rattle.replay_command.specs.Replayed.{settings_read, MayReplay, IsSettingsStop};
+ghost use Rattle.replay_command.specs.Replayed.{settings_read, MayOpenReplay, IsSettingsStop};
 
 use command_io::{Origin, Stop, check_known};
 use context_table::Table;
@@ -36,7 +36,7 @@ pub fn choose_settings(
     requires writable { SettingsCanBeWritten table.now.context.width (settings_of script.settings) }
     ensures settings { IfOk result (λ s. settings_read (option_copied known_file.entry) known.members table.now (content_of script) ≡ Read (settings_of s.0)) }
     ensures events { IfOk result (λ s. s.1 ≡ script.events) }
-    ensures may_open { IfOk result (λ s. MayReplay table.now s.0) }
+    ensures may_open { IfOk result (λ s. MayOpenReplay table.now s.0) }
     ensures refused { IfErr result (λ _. settings_read (option_copied known_file.entry) known.members table.now (content_of script) ≡ Refused) }
     ensures cause { IfErr result (IsSettingsStop (option_copied known_file.entry) table.now (content_of script)) }
 {
