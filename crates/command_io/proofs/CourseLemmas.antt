@@ -50,7 +50,7 @@ asks-chosen most hs (i ∷ J) q h = go (all_held most hs (i ∷ J)) (least_held 
 draw-asked : (s : State) (e : ℕ) (q : Rule) → reply_to s (Draw e) ≡ Ask q → IsAsked s e q
 unfolding reply_to
 draw-asked s e q h =
-    let hs = given_back e s.holds in
+    let hs = given_back e s.held in
     let chosen = asks-chosen s.settings.holders hs (open_in s) q h in record {
       among = draw_asks s.settings.holders hs (open_in s) q h;
       fewest = find_passes (λ i. list_all (λ j. nat_le (holders_of i.premise hs) (holders_of j.premise hs)) (open_in s))
@@ -117,8 +117,8 @@ legal-course table experts settings H expert respecting wide legal =
     let o : Opening = opening_of table experts settings in
     let s : State = opening_state o in
     let now : State = state_after s (events_of H) in
-    let kept : IsKept o H now.context now.accepted now.holds = record {
-      shown = record { context = refl; accepted = refl; holds = refl };
+    let kept : IsKept o H now.context now.accepted now.held = record {
+      shown = record { context = refl; accepted = refl; held = refl };
       legal = legal;
       experts = expert;
       known = respecting;
@@ -127,7 +127,7 @@ legal-course table experts settings H expert respecting wide legal =
     let Wide : ℕ → Type 0 = λ n. HaveWidth n settings.known in
     let known : list_all (holds now.context) settings.known ≡ true =
     known_holds settings.known now.context (subst Wide (sym (run_width s (events_of H))) wide)
-    (subst Respect (kept_known o H now.context now.accepted now.holds kept) (kept_valid o H now.context now.accepted now.holds kept).known)
+    (subst Respect (kept_known o H now.context now.accepted now.held kept) (kept_valid o H now.context now.accepted now.held kept).known)
     in
     record {
       legal = legal;
@@ -136,5 +136,5 @@ legal-course table experts settings H expert respecting wide legal =
       seen = λ e. sees-on (record { opening = o; journal = H }) e [] [] H legal refl;
       asked = λ before after e q split. asked-then s H before after e q legal split;
       done = λ before after e reply split. done-then s H before after e reply legal split;
-      basis = λ none. basis_is o H now.context now.accepted now.holds kept known none;
+      basis = λ none. basis_is o H now.context now.accepted now.held kept known none;
     }

@@ -49,9 +49,9 @@ pub record IsOnCourse (s : State) : Type 0 where
 -- in this state expert e is asked the question q: it is open, and of the open ones the first that the fewest others hold
 pub record IsAsked (s : State) (e : ℕ) (q : Rule) : Type 0 where
   pub among : Among (open_in s) q
-  pub fewest : list_all (λ j. nat_le (holders_of q.premise (given_back e s.holds)) (holders_of j.premise (given_back e s.holds)))
+  pub fewest : list_all (λ j. nat_le (holders_of q.premise (given_back e s.held)) (holders_of j.premise (given_back e s.held)))
       (open_in s) ≡ true
-  pub first : least_held (given_back e s.holds) (open_in s) ≡ Some q
+  pub first : least_held (given_back e s.held) (open_in s) ≡ Some q
 
 -- An expert who has seen this front of the journal makes these entries later. At each of them it has seen a legal history, which goes on from
 -- what it had seen before, maybe with entries of others, and ends in the entry. The journal goes on from the last

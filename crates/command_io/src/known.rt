@@ -47,7 +47,7 @@ pub fn load_start<H: Shelf>(
     ensures quiet { UnlessFault result (SameCounts (H.faults shelf.old) (H.faults shelf.new)) }
     ensures few { RoseAtMost (H.fetches shelf.old) (H.fetches shelf.new) (length (file.now ∷ option_to_list (option_copied known.entry))) }
     ensures kept { (other : List ℕ) → H.tells shelf.new other ≡ H.tells shelf.old other }
-    ensures later { (other : List ℕ) → H.faults shelf.old other ≤ H.faults shelf.new other }
+    ensures only_rise { (other : List ℕ) → H.faults shelf.old other ≤ H.faults shelf.new other }
 {
     let table = load_table(alloc, shelf, file, Origin::File)?;
     let known = load_known(alloc, shelf, known, &table)?;
@@ -70,7 +70,7 @@ fn load_known<H: Shelf>(
     ensures quiet { UnlessFault result (SameCounts (H.faults shelf.old) (H.faults shelf.new)) }
     ensures few { RoseAtMost (H.fetches shelf.old) (H.fetches shelf.new) (length (option_to_list (option_copied known.entry))) }
     ensures kept { (other : List ℕ) → H.tells shelf.new other ≡ H.tells shelf.old other }
-    ensures later { (other : List ℕ) → H.faults shelf.old other ≤ H.faults shelf.new other }
+    ensures only_rise { (other : List ℕ) → H.faults shelf.old other ≤ H.faults shelf.new other }
 {
     match known {
         Some(file) => load_known_file(alloc, shelf, file, table),
@@ -95,7 +95,7 @@ fn load_known_file<H: Shelf>(
     ensures quiet { UnlessFault result (SameCounts (H.faults shelf.old) (H.faults shelf.new)) }
     ensures counted { H.fetches shelf.new ≡ option_map one_more (H.fetches shelf.old) }
     ensures kept { (other : List ℕ) → H.tells shelf.new other ≡ H.tells shelf.old other }
-    ensures later { (other : List ℕ) → H.faults shelf.old other ≤ H.faults shelf.new other }
+    ensures only_rise { (other : List ℕ) → H.faults shelf.old other ≤ H.faults shelf.new other }
 {
     let list = load_implications(alloc, shelf, file, table.rows().width())?;
     check_known(table, &list, Origin::File)?;
@@ -119,7 +119,7 @@ fn load_implications<H: Shelf>(
     ensures quiet { UnlessFault result (SameCounts (H.faults shelf.old) (H.faults shelf.new)) }
     ensures counted { H.fetches shelf.new ≡ option_map one_more (H.fetches shelf.old) }
     ensures kept { (other : List ℕ) → H.tells shelf.new other ≡ H.tells shelf.old other }
-    ensures later { (other : List ℕ) → H.faults shelf.old other ≤ H.faults shelf.new other }
+    ensures only_rise { (other : List ℕ) → H.faults shelf.old other ≤ H.faults shelf.new other }
 {
     let bytes = fetch_file(alloc, shelf, file, Origin::Known)?;
     implications_of(alloc, &bytes, n)

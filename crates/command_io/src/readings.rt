@@ -40,7 +40,7 @@ pub fn load_table<H: Shelf>(
     ensures quiet { UnlessFault result (SameCounts (H.faults shelf.old) (H.faults shelf.new)) }
     ensures counted { H.fetches shelf.new ≡ option_map one_more (H.fetches shelf.old) }
     ensures kept { (other : List ℕ) → H.tells shelf.new other ≡ H.tells shelf.old other }
-    ensures later { (other : List ℕ) → H.faults shelf.old other ≤ H.faults shelf.new other }
+    ensures only_rise { (other : List ℕ) → H.faults shelf.old other ≤ H.faults shelf.new other }
 {
     let bytes = fetch_file(alloc, shelf, file, origin)?;
     table_of(alloc, &bytes, file.bytes(), origin)
@@ -102,7 +102,7 @@ pub fn load_script<S: Source>(alloc: Global, input: &mut S, n: u32) -> Result<Sc
     ensures refused { IfErr result (λ stop. IsRefusal stop → MayRefuse (script_read n (S.left input.old))) }
     ensures cause { IfErr result (IsScriptStop n (S.left input.old) (Rose (S.faults input.old) (S.faults input.new))) }
     ensures quiet { UnlessFault result (S.faults input.new ≡ S.faults input.old) }
-    ensures later { S.faults input.old ≤ S.faults input.new }
+    ensures only_rise { S.faults input.old ≤ S.faults input.new }
 
     ensures end { OnOk result (IsAtEnd (S.left input.new)) }
     ensures refused_whole { (fault : ScriptFault) → IsErrOf result (Stop.NoScript fault) → IsAtEnd (S.left input.new) }

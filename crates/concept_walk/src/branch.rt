@@ -17,7 +17,7 @@ use crate::steps::{Descent, enter, first_step, next_step, put_back};
 use attr_bits::Bits;
 use extent_places::{closure_at, last_member};
 use fca_model::Memory;
-use lectic_concepts::{is_child, is_tried, note};
+use lectic_concepts::{is_child, is_to_try, note};
 use std::alloc::Global;
 
 /// The closure of a node's intent with one attribute more, which may be a child of the node.
@@ -90,7 +90,7 @@ pub fn next_child<const W: usize>(
     let mut place = candidates.end;
     while let Some(i) = last_member(&candidates.tries, node.from, place) {
         place = i;
-        if !is_tried(
+        if !is_to_try(
             rows,
             a,
             i,

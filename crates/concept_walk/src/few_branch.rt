@@ -16,7 +16,7 @@ use crate::scratch::{WorkListPool, WorkLists, take_lists};
 use attr_bits::Bits;
 use extent_places::{FEW_OBJECTS, FewObjects, ObjectSet, SmallConcept, last_member, tries_of};
 use fca_model::Memory;
-use lectic_concepts::{is_child, is_tried, note, pass_witnesses};
+use lectic_concepts::{is_child, is_to_try, note, pass_witnesses};
 use std::alloc::Global;
 
 /// A node whose objects are among few that were set apart.
@@ -78,7 +78,7 @@ fn gather_few<const W: usize>(
     let tries = tries_of(rows, a, &scratch.found);
     while let Some(i) = last_member(&tries, node.from, end) {
         end = i;
-        if !is_tried(
+        if !is_to_try(
             rows,
             a,
             i,

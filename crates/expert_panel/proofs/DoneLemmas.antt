@@ -61,8 +61,8 @@ is_Done _ h = cc
 done_open : (s : State) (event : SetEvent) → is_done (reply_to s event) ≡ true → open_in s ≡ []
 unfolding reply_to
 done_open s (Draw e) h = (draw_done s e).0 (is_Done (reply_to s (Draw e)) h)
-done_open s (Confirm e) h = absurd (false≢true (sym (confirm_goes_on s (held_by e s.holds)) ∙ h))
-done_open s (Row e name r) h = absurd (false≢true (sym (row_goes_on s (held_by e s.holds) r) ∙ h))
+done_open s (Confirm e) h = absurd (false≢true (sym (confirm_goes_on s (held_by e s.held)) ∙ h))
+done_open s (Row e name r) h = absurd (false≢true (sym (row_goes_on s (held_by e s.held) r) ∙ h))
 done_open s (Leave e) h = absurd (false≢true h)
 
 -- ---- in a history

@@ -97,7 +97,7 @@ fn write_at_once<K: Sink>(
 
     ensures quiet { OnOk result (K.faults sink.new ≡ K.faults sink.old) }
     ensures failed { OnErr result (Rose (K.faults sink.old) (K.faults sink.new)) }
-    ensures later { K.faults sink.old ≤ K.faults sink.new }
+    ensures only_rise { K.faults sink.old ≤ K.faults sink.new }
 
     ensures beside { Keeps (K.beside sink.old) (K.beside sink.new) }
     ensures same_beside { K.asked_beside sink.new ≡ K.asked_beside sink.old }

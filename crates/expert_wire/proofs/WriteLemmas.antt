@@ -22,7 +22,7 @@ Writes-nothing held faults other aside = record {
   front = record { front = []; rest = []; whole = refl; gained = Appends-nil held };
   quiet = refl;
   failed = tt;
-  later = omega arith;
+  only_rise = omega arith;
   beside = Keeps-refl other;
   same_beside = refl;
 }
@@ -47,7 +47,7 @@ Writes-then {h0} {h1} {h2} {f0} {f1} {f2} {o0} {o1} {o2} {a0} {a1} {a2} {s} {t} 
   };
   quiet = quiet r y.quiet;
   failed = failed r y.failed;
-  later = let p = x.later in let q = y.later in omega arith;
+  only_rise = let p = x.only_rise in let q = y.only_rise in omega arith;
   beside = Keeps-trans _ _ _ x.beside y.beside;
   same_beside = y.same_beside ∙ x.same_beside;
 }
@@ -62,7 +62,7 @@ Writes-then {h0} {h1} {h2} {f0} {f1} {f2} {o0} {o1} {o2} {a0} {a1} {a2} {s} {t} 
 
     failed : (r : Result (Unit {0}) Put) → OnErr r (Rose f1 f2) → OnErr r (Rose f0 f2)
     failed (Ok u) h = tt
-    failed (Err e) h = Rose-later f0 f1 f2 x.later h
+    failed (Err e) h = Rose-later f0 f1 f2 x.only_rise h
 
 pub Writes-front : {h0 h1 : Option Text} {f0 f1 : ℕ} {o0 o1 : Option Text} {a0 a1 : Asked} {s : Text} (t : Text) (e : Put)
     → Writes h0 h1 f0 f1 o0 o1 a0 a1 s (Err e) → Writes h0 h1 f0 f1 o0 o1 a0 a1 (s ++ t) (Err e)
@@ -76,7 +76,7 @@ Writes-front {s = s} t e x = record {
   };
   quiet = tt;
   failed = x.failed;
-  later = x.later;
+  only_rise = x.only_rise;
   beside = x.beside;
   same_beside = x.same_beside;
 }

@@ -30,7 +30,7 @@ pub record Writes (held held' : Option Text) (faults faults' : ℕ) (other other
   pub front : AppendsFront held held' text
   pub quiet : OnOk result (faults' ≡ faults)
   pub failed : OnErr result (Rose faults faults')
-  pub later : faults ≤ faults'
+  pub only_rise : faults ≤ faults'
   pub beside : Keeps other other'
   pub same_beside : aside' ≡ aside
 

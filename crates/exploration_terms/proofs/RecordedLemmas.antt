@@ -8,7 +8,7 @@ use Rattle.exploration_terms.specs.Recorded.{is_recorded}
 
 pub draw_not_recorded : (s : State) (e : ℕ) → is_recorded (reply_to s (Draw e)) ≡ false
 unfolding reply_to
-draw_not_recorded s e = go s.settings.holders (given_back e s.holds) (open_in s)
+draw_not_recorded s e = go s.settings.holders (given_back e s.held) (open_in s)
   where
     choice : (b : Bool) (o : Option Rule) → is_recorded (cond b AllHeld (asked o)) ≡ false
     choice true o = refl

@@ -109,7 +109,7 @@ fn load_experts<H: Shelf>(
         (Rises (H.faults shelf.old) (H.faults shelf.new))) }
     ensures quiet { UnlessFault result (SameCounts (H.faults shelf.old) (H.faults shelf.new)) }
     ensures few { RoseAtMost (H.fetches shelf.old) (H.fetches shelf.new) (length files.now) }
-    ensures later { (other : List ℕ) → H.faults shelf.old other ≤ H.faults shelf.new other }
+    ensures only_rise { (other : List ℕ) → H.faults shelf.old other ≤ H.faults shelf.new other }
 {
     let mut tables = Vec::new(alloc);
     for (place, file) in files.iter().enumerate() {
@@ -135,7 +135,7 @@ fn load_expert<H: Shelf>(
     ensures quiet { UnlessFault result (SameCounts (H.faults shelf.old) (H.faults shelf.new)) }
     ensures counted { H.fetches shelf.new ≡ option_map one_more (H.fetches shelf.old) }
     ensures kept { (other : List ℕ) → H.tells shelf.new other ≡ H.tells shelf.old other }
-    ensures later { (other : List ℕ) → H.faults shelf.old other ≤ H.faults shelf.new other }
+    ensures only_rise { (other : List ℕ) → H.faults shelf.old other ≤ H.faults shelf.new other }
 {
     let expert_table = load_table(alloc, shelf, file, origin)?;
     check_attributes(table, expert_table, origin)

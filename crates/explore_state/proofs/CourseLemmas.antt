@@ -60,7 +60,7 @@ module _ (o : Opening) (J : List SetEntry) (K : Context) (acc : List Rule) (hs :
 
   pub draw_is_open : (e : ℕ) (q : Rule) → reply_to now (Draw e) ≡ Ask q → Among (open_questions S now.context now.accepted) q
   unfolding reply_to
-  draw_is_open e q h = subst (λ L. Among L q) opened (draw_asks now.settings.holders (given_back e now.holds) (open_in now) q h)
+  draw_is_open e q h = subst (λ L. Among L q) opened (draw_asks now.settings.holders (given_back e now.held) (open_in now) q h)
 
   pub draw_is_free : o.settings.holders ≡ MAX_EXPERTS → (e : ℕ) → Admits o (Draw e) → reply_to now (Draw e) ≢ AllHeld
   draw_is_free most e ok = never_all_held now (kept_valid o J K acc hs kept)

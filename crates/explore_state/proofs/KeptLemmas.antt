@@ -33,7 +33,7 @@ pub kept_opening : (o : Opening) (J : List SetEntry) (K : Context) (acc : List R
     → J ≡ [] → K ≡ o.table.context → acc ≡ [] → hs ≡ [] → IsKept o J K acc hs
 unfolding state_after
 kept_opening o J K acc hs e respecting no_entry rows nothing none = subst (λ H. IsKept o H K acc hs) (sym no_entry) (record {
-  shown = record { context = sym rows; accepted = sym nothing; holds = sym none };
+  shown = record { context = sym rows; accepted = sym nothing; held = sym none };
   legal = legal_none (opening_state o);
   experts = e;
   known = respecting;
@@ -115,8 +115,8 @@ module _ (o : Opening) (J : List SetEntry) (K : Context) (acc : List Rule) (hs :
       (open_questions o.settings.known K acc)
   unfolding reply_to
   reply_to-draw e =
-      ap (λ n. draw_reply n (given_back e now.holds) (open_in now)) (ap (λ (t : Settings). t.holders) (kept_settings o J K acc hs kept))
-      ∙ ap (λ gs. draw_reply o.settings.holders (given_back e gs) (open_in now)) kept.shown.holds
+      ap (λ n. draw_reply n (given_back e now.held) (open_in now)) (ap (λ (t : Settings). t.holders) (kept_settings o J K acc hs kept))
+      ∙ ap (λ gs. draw_reply o.settings.holders (given_back e gs) (open_in now)) kept.shown.held
       ∙ ap (λ S. draw_reply o.settings.holders (given_back e hs) (open_questions S now.context now.accepted)) known
       ∙ ap₂ (λ L A. draw_reply o.settings.holders (given_back e hs) (open_questions o.settings.known L A)) kept.shown.context
       kept.shown.accepted
@@ -126,22 +126,22 @@ module _ (o : Opening) (J : List SetEntry) (K : Context) (acc : List Rule) (hs :
       → r ≡ reply_to now (Confirm e)
   unfolding reply_to
   reply_to-confirm e q r held is = is now kept.shown.context kept.shown.accepted known
-      ∙ sym (ap (confirm_reply now) (ap (held_by e) kept.shown.holds ∙ held))
+      ∙ sym (ap (confirm_reply now) (ap (held_by e) kept.shown.held ∙ held))
 
   pub reply_to-confirm_none : (e : ℕ) → held_by e hs ≡ None → NotHeld ≡ reply_to now (Confirm e)
   unfolding reply_to
-  reply_to-confirm_none e held = sym (ap (confirm_reply now) (ap (held_by e) kept.shown.holds ∙ held))
+  reply_to-confirm_none e held = sym (ap (confirm_reply now) (ap (held_by e) kept.shown.held ∙ held))
 
   pub reply_to-row : (e : ℕ) (name : RowName) (row : Set) (q : Rule) (r : SetReply) → held_by e hs ≡ Some q
       → ((t : State) → t.context ≡ K → rules_of t ≡ o.settings.known ++ acc → r ≡ row_reply t (Some q) row)
       → r ≡ reply_to now (Row e name row)
   unfolding reply_to
   reply_to-row e name row q r held is = is now kept.shown.context (kept_rules o J K acc hs kept)
-      ∙ sym (ap (λ m. row_reply now m row) (ap (held_by e) kept.shown.holds ∙ held))
+      ∙ sym (ap (λ m. row_reply now m row) (ap (held_by e) kept.shown.held ∙ held))
 
   pub reply_to-row_none : (e : ℕ) (name : RowName) (row : Set) → held_by e hs ≡ None → NotHeld ≡ reply_to now (Row e name row)
   unfolding reply_to
-  reply_to-row_none e name row held = sym (ap (λ m. row_reply now m row) (ap (held_by e) kept.shown.holds ∙ held))
+  reply_to-row_none e name row held = sym (ap (λ m. row_reply now m row) (ap (held_by e) kept.shown.held ∙ held))
 
   pub reply_to-leave : (e : ℕ) → Left ≡ reply_to now (Leave e)
   unfolding reply_to

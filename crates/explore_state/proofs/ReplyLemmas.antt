@@ -44,7 +44,7 @@ module _ (S : List Rule) (K : Context) (acc : List Rule) (hs : List SetHold) whe
   unfolding reply_to
   accepted_timely e k reply due is q held =
       let s = due.state in
-      let mine : held_by e s.holds ≡ Some q = ap (held_by e) due.shown.holds ∙ held in
+      let mine : held_by e s.held ≡ Some q = ap (held_by e) due.shown.held ∙ held in
       let told = accepts s q k (ap (confirm_reply s) (sym mine) ∙ sym due.reply ∙ is) in
       let may = held_valid s due.valid e q mine in
       let here = unrefuted_holds s.context q may.conclusion_wide told.0 in
@@ -81,7 +81,7 @@ module _ (S : List Rule) (K : Context) (acc : List Rule) (hs : List SetHold) whe
   unfolding reply_to
   taken_respects e k name r reply due is =
       let s = due.state in
-      let all = takes s (held_by e s.holds) r k (sym due.reply ∙ is) in
+      let all = takes s (held_by e s.held) r k (sym due.reply ∙ is) in
       subst (λ T. respects_all (T ++ acc) r ≡ true) due.known
       (subst (λ J. respects_all (s.settings.known ++ J) r ≡ true) due.shown.accepted all)
 
@@ -92,5 +92,5 @@ module _ (S : List Rule) (K : Context) (acc : List Rule) (hs : List SetHold) whe
 
   -- there is room for one more hold
   pub draw_room : (e : ℕ) (reply : SetReply) → IsDue S K acc hs (Draw e) reply → length (given_back e hs) < MAX_EXPERTS
-  draw_room e reply due = subst (λ gs. length (given_back e gs) < MAX_EXPERTS) due.shown.holds
-      (others_fewer e (rule [] []) due.state.holds due.expert due.valid.experts)
+  draw_room e reply due = subst (λ gs. length (given_back e gs) < MAX_EXPERTS) due.shown.held
+      (others_fewer e (rule [] []) due.state.held due.expert due.valid.experts)

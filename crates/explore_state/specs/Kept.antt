@@ -12,7 +12,7 @@ use Rattle.explore_state.specs.History.{Opening, opening_state}
 pub record IsShown (s : State) (K : Context) (acc : List Rule) (hs : List SetHold) : Type 0 where
   pub context : s.context ≡ K
   pub accepted : s.accepted ≡ acc
-  pub holds : s.holds ≡ hs
+  pub held : s.held ≡ hs
 
 -- they are those after the journal, which is legal; the rows of the opening respect what is known
 pub record IsKept (o : Opening) (J : List SetEntry) (K : Context) (acc : List Rule) (hs : List SetHold) : Type 0 where

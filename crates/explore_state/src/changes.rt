@@ -10,7 +10,7 @@ ghost use Rattle.fca_model.specs.Exploration.{State, RowName, held_by, given_bac
 ghost use Rattle.exploration_terms.specs.Recorded.{is_recorded};
 ghost use Rattle.explore_state.specs.Kept.{IsShown, IsDue, IsTimely, with_held};
 
-use crate::holds::{give_back, question_of};
+use crate::held::{give_back, question_of};
 use crate::{Event, Hold, Reply};
 use attr_bits::Attrs;
 use fca_model::Memory;

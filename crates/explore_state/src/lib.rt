@@ -20,13 +20,13 @@ ghost use Rattle.explore_state.specs.Faults.{open_fault};
 
 mod changes;
 mod fault;
-mod holds;
+mod held;
 mod replies;
 
 use crate::changes::change;
 pub use crate::fault::{OpenFault, first_break};
 use crate::fault::{is_expert, open_fault};
-use crate::holds::question_of;
+use crate::held::question_of;
 use crate::replies::{reply_to_confirmation, reply_to_draw, reply_to_row};
 use attr_bits::Attrs;
 use context_table::Table;
@@ -350,7 +350,7 @@ impl Explore {
 
     /// The question that the expert holds, if any.
     pub fn held(&self, e: u8) -> Option<Question>
-        ensures { result ≡ held_by e (state_of self.now).holds }
+        ensures { result ≡ held_by e (state_of self.now).held }
     {
         question_of(&self.held, e)
     }

@@ -5,7 +5,7 @@ ghost use Rattle.fca_model.specs.declared.Reply.TheVariants.{Accepted};
 ghost use Rattle.fca_model.specs.Exploration.{State, rules_of, given_back, draw_reply, confirm_reply, row_reply};
 ghost use Rattle.explore_state.specs.Fewest.{IsFewest};
 
-use crate::holds::other_holders;
+use crate::held::other_holders;
 use crate::{Hold, Implication, Question, Reply};
 use answer_check::{Verdict, check_confirm, check_row};
 use attr_bits::Attrs;

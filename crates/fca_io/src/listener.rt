@@ -50,8 +50,8 @@ pub trait Listener {
         ensures quiet { OnOk result ((other : List ℕ) → open_faults self.new other ≡ open_faults self.old other) }
         ensures quiet_accept { OnOk result (accept_faults self.new ≡ accept_faults self.old) }
         ensures failed { OnErr result (Rose (open_faults self.old address.now) (open_faults self.new address.now)) }
-        ensures later { (other : List ℕ) → open_faults self.old other ≤ open_faults self.new other }
-        ensures later_accept { accept_faults self.old ≤ accept_faults self.new };
+        ensures only_rise { (other : List ℕ) → open_faults self.old other ≤ open_faults self.new other }
+        ensures only_rise_accept { accept_faults self.old ≤ accept_faults self.new };
 
     /// Accepts the first of the ends to come.
     fn accept(&mut self) -> Result<Self::End, Failed>
@@ -65,8 +65,8 @@ pub trait Listener {
         ensures quiet { OnOk result (accept_faults self.new ≡ accept_faults self.old) }
         ensures quiet_open { OnOk result ((other : List ℕ) → open_faults self.new other ≡ open_faults self.old other) }
         ensures failed { OnErr result (Rose (accept_faults self.old) (accept_faults self.new)) }
-        ensures later { (other : List ℕ) → open_faults self.old other ≤ open_faults self.new other }
-        ensures later_accept { accept_faults self.old ≤ accept_faults self.new };
+        ensures only_rise { (other : List ℕ) → open_faults self.old other ≤ open_faults self.new other }
+        ensures only_rise_accept { accept_faults self.old ≤ accept_faults self.new };
 
     /// Takes an end back. It comes last among those given back, or is dropped if there is no room.
     fn give_back(&mut self, end: Self::End)

@@ -94,7 +94,7 @@ pub trait Source {
 
         ensures quiet { OnOk result (faults self.new ≡ faults self.old) }
         ensures failed { OnErr result (Rose (faults self.old) (faults self.new)) }
-        ensures later { faults self.old ≤ faults self.new }
+        ensures only_rise { faults self.old ≤ faults self.new }
         ensures counted { reads self.new ≡ option_map one_more (reads self.old) }
 
         ensures beside { Keeps (beside self.old) (beside self.new) }
@@ -130,7 +130,7 @@ pub trait Sink {
 
         ensures quiet { OnOk result (faults self.new ≡ faults self.old) }
         ensures failed { OnErr result (Rose (faults self.old) (faults self.new)) }
-        ensures later { faults self.old ≤ faults self.new }
+        ensures only_rise { faults self.old ≤ faults self.new }
 
         ensures beside { Keeps (beside self.old) (beside self.new) }
         ensures same_beside { asked_beside self.new ≡ asked_beside self.old };
@@ -157,5 +157,5 @@ pub trait Shelf {
 
         ensures quiet { ¬ IsErrOf result Taken.Failed → (other : List ℕ) → faults self.new other ≡ faults self.old other }
         ensures failed { IsErrOf result Taken.Failed → Rose (faults self.old name.now) (faults self.new name.now) }
-        ensures later { (other : List ℕ) → faults self.old other ≤ faults self.new other };
+        ensures only_rise { (other : List ℕ) → faults self.old other ≤ faults self.new other };
 }

@@ -25,7 +25,7 @@ pub fn read_all<S: Source>(alloc: Global, source: &mut S, limit: usize) -> Resul
 
     ensures quiet { ¬ IsErrOf result Taken.Failed → S.faults source.new ≡ S.faults source.old }
     ensures failed { IsErrOf result Taken.Failed → Rose (S.faults source.old) (S.faults source.new) }
-    ensures later { S.faults source.old ≤ S.faults source.new }
+    ensures only_rise { S.faults source.old ≤ S.faults source.new }
 
     ensures beside { Keeps (S.beside source.old) (S.beside source.new) }
     ensures same_beside { S.faults_beside source.new ≡ S.faults_beside source.old }
@@ -56,7 +56,7 @@ pub fn write_text<K: Sink>(sink: &mut K, text: &[u8]) -> Result<(), Put>
 
     ensures quiet { OnOk result (K.faults sink.new ≡ K.faults sink.old) }
     ensures failed { OnErr result (Rose (K.faults sink.old) (K.faults sink.new)) }
-    ensures later { K.faults sink.old ≤ K.faults sink.new }
+    ensures only_rise { K.faults sink.old ≤ K.faults sink.new }
 
     ensures beside { Keeps (K.beside sink.old) (K.beside sink.new) }
     ensures same_beside { K.asked_beside sink.new ≡ K.asked_beside sink.old }

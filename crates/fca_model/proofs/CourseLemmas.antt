@@ -117,8 +117,8 @@ least_of f i (j ∷ J) =
 pub draw_done : (s : State) (e : ℕ) → reply_to s (Draw e) ≡ Done ↔ open_in s ≡ []
 unfolding reply_to
 draw_done s e = (
-  done s.settings.holders (given_back e s.holds) (open_in s),
-  λ none. ap (draw_reply s.settings.holders (given_back e s.holds)) none,
+  done s.settings.holders (given_back e s.held) (open_in s),
+  λ none. ap (draw_reply s.settings.holders (given_back e s.held)) none,
 )
   where
     done : (most : ℕ) (hs : List SetHold) (J : List Rule) → draw_reply most hs J ≡ Done → J ≡ []
@@ -135,7 +135,7 @@ draw_done s e = (
 
 module _ (s : State) (v : IsValid s) (done : open_in s ≡ []) where
   -- what is held and holds was accepted
-  held_heard : (e : ℕ) (q : Rule) → held_by e s.holds ≡ Some q → list_any (λ r. refutes r q) s.context.rows ≡ false
+  held_heard : (e : ℕ) (q : Rule) → held_by e s.held ≡ Some q → list_any (λ r. refutes r q) s.context.rows ≡ false
       → has_premise s.accepted q.premise ≡ true
   held_heard e q held unrefuted =
       let S = s.settings.known in

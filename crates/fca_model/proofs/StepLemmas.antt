@@ -53,67 +53,67 @@ draw_asks most hs (i ∷ J) q h = go (all_held most hs (i ∷ J)) (least_held hs
 
 module _ (s : State) (Goal : State → Type 0) (e : ℕ) (unchanged : Goal s) (released : Goal (release e s)) where
   draw_changes : ((q : Rule) → Among (open_in s) q
-      → Goal (record s { holds = given_back e s.holds ++ record { expert = e; question = q } ∷ [] })) → Goal (next s (Draw e))
+      → Goal (record s { held = given_back e s.held ++ record { expert = e; question = q } ∷ [] })) → Goal (next s (Draw e))
   unfolding after reply_to
-  draw_changes ask = go (draw_reply s.settings.holders (given_back e s.holds) (open_in s)) refl
+  draw_changes ask = go (draw_reply s.settings.holders (given_back e s.held) (open_in s)) refl
     where
-      go : (reply : SetReply) → draw_reply s.settings.holders (given_back e s.holds) (open_in s) ≡ reply → Goal (after_draw e s reply)
-      go (Ask q) h = ask q (draw_asks s.settings.holders (given_back e s.holds) (open_in s) q h)
+      go : (reply : SetReply) → draw_reply s.settings.holders (given_back e s.held) (open_in s) ≡ reply → Goal (after_draw e s reply)
+      go (Ask q) h = ask q (draw_asks s.settings.holders (given_back e s.held) (open_in s) q h)
       go _ h = released
 
-  confirm_changes : ((q : Rule) → held_by e s.holds ≡ Some q → list_any (λ r. refutes r q) s.context.rows ≡ false
+  confirm_changes : ((q : Rule) → held_by e s.held ≡ Some q → list_any (λ r. refutes r q) s.context.rows ≡ false
       → has_premise s.accepted q.premise ≡ false → Goal (release e (accept (Some q) s)))
       → Goal (next s (Confirm e))
   unfolding after reply_to
-  confirm_changes accepted = go (held_by e s.holds) refl
+  confirm_changes accepted = go (held_by e s.held) refl
     where
-      unheard : (q : Rule) → held_by e s.holds ≡ Some q → list_any (λ r. refutes r q) s.context.rows ≡ false
+      unheard : (q : Rule) → held_by e s.held ≡ Some q → list_any (λ r. refutes r q) s.context.rows ≡ false
           → (o : Option (ℕ × Rule)) → first_with (λ i. same i.premise q.premise) (length s.settings.known) s.accepted ≡ o
           → Goal (after_confirm e s (confirm_unheard s o))
       unheard q held unrefuted (Some f) h = released
       unheard q held unrefuted None h = subst (λ o. Goal (release e (accept o s))) (sym held)
           (accepted q held unrefuted (first_with_none (λ i. same i.premise q.premise) (length s.settings.known) s.accepted h))
 
-      unrefuted : (q : Rule) → held_by e s.holds ≡ Some q → (o : Option (ℕ × Set)) → first_with (λ r. refutes r q) 0 s.context.rows ≡ o
+      unrefuted : (q : Rule) → held_by e s.held ≡ Some q → (o : Option (ℕ × Set)) → first_with (λ r. refutes r q) 0 s.context.rows ≡ o
           → Goal (after_confirm e s (confirm_unrefuted s q o))
       unrefuted q held (Some f) h = released
       unrefuted q held None h = unheard q held (first_with_none (λ r. refutes r q) 0 s.context.rows h)
           (first_with (λ i. same i.premise q.premise) (length s.settings.known) s.accepted) refl
 
-      go : (o : Option Rule) → held_by e s.holds ≡ o → Goal (after_confirm e s (confirm_reply s o))
+      go : (o : Option Rule) → held_by e s.held ≡ o → Goal (after_confirm e s (confirm_reply s o))
       go None h = unchanged
       go (Some q) h = unrefuted q h (first_with (λ r. refutes r q) 0 s.context.rows) refl
 
-  row_changes : (name : RowName) (r : Set) → ((q : Rule) → held_by e s.holds ≡ Some q → refutes r q ≡ true
+  row_changes : (name : RowName) (r : Set) → ((q : Rule) → held_by e s.held ≡ Some q → refutes r q ≡ true
       → respects_all (rules_of s) r ≡ true → list_any (λ r. refutes r q) s.context.rows ≡ false → Goal (release e (record_row name r s)))
       → Goal (next s (Row e name r))
   unfolding after reply_to
-  row_changes name r recorded = go (held_by e s.holds) refl
+  row_changes name r recorded = go (held_by e s.held) refl
     where
-      new : (q : Rule) → held_by e s.holds ≡ Some q → refutes r q ≡ true → respects_all (rules_of s) r ≡ true
+      new : (q : Rule) → held_by e s.held ≡ Some q → refutes r q ≡ true → respects_all (rules_of s) r ≡ true
           → (o : Option (ℕ × Set)) → first_with (λ r. refutes r q) 0 s.context.rows ≡ o → Goal (after_row e name r s (row_new s o))
       new q held t kept (Some f) h = released
       new q held t kept None h = recorded q held t kept (first_with_none (λ r. refutes r q) 0 s.context.rows h)
 
-      unbroken : (q : Rule) → held_by e s.holds ≡ Some q → refutes r q ≡ true
+      unbroken : (q : Rule) → held_by e s.held ≡ Some q → refutes r q ≡ true
           → (o : Option (ℕ × Rule)) → first_with (λ i. not (respects r i)) 0 (rules_of s) ≡ o
           → Goal (after_row e name r s (row_unbroken s q o))
       unbroken q held t (Some f) h = unchanged
       unbroken q held t None h = new q held t (list_all-from_none (respects r) (rules_of s)
           (first_with_none (λ i. not (respects r i)) 0 (rules_of s) h)) (first_with (λ r. refutes r q) 0 s.context.rows) refl
 
-      refuting : (q : Rule) → held_by e s.holds ≡ Some q → within q.premise r ≡ true → (b : Bool) → within q.conclusion r ≡ b
+      refuting : (q : Rule) → held_by e s.held ≡ Some q → within q.premise r ≡ true → (b : Bool) → within q.conclusion r ≡ b
           → Goal (after_row e name r s (row_refuting s q r b))
       refuting q held p true h = unchanged
       refuting q held p false h = unbroken q held (and_from (within q.premise r) (not (within q.conclusion r)) p (ap not h))
           (first_with (λ i. not (respects r i)) 0 (rules_of s)) refl
 
-      fitting : (q : Rule) → held_by e s.holds ≡ Some q → (o : Option ℕ) → first_missing 0 q.premise r ≡ o
+      fitting : (q : Rule) → held_by e s.held ≡ Some q → (o : Option ℕ) → first_missing 0 q.premise r ≡ o
           → Goal (after_row e name r s (row_fitting s q r o))
       fitting q held (Some a) h = unchanged
       fitting q held None h = refuting q held (first_missing_none 0 q.premise r h) (within q.conclusion r) refl
 
-      go : (o : Option Rule) → held_by e s.holds ≡ o → Goal (after_row e name r s (row_reply s o r))
+      go : (o : Option Rule) → held_by e s.held ≡ o → Goal (after_row e name r s (row_reply s o r))
       go None h = unchanged
       go (Some q) h = fitting q h (first_missing 0 q.premise r) refl
 
@@ -124,10 +124,10 @@ module _ (s : State) (Goal : State → Type 0) (e : ℕ) (unchanged : Goal s) (r
 -- a claim of the next state, by what the event can have done
 pub by_change : (s : State) (event : SetEvent) (Goal : State → Type 0) → Goal s → Goal (release (expert_of event) s)
     → ((q : Rule) → Among (open_in s) q → Goal (record s
-    { holds = given_back (expert_of event) s.holds ++ record { expert = expert_of event; question = q } ∷ [] }))
-    → ((q : Rule) → held_by (expert_of event) s.holds ≡ Some q → list_any (λ r. refutes r q) s.context.rows ≡ false
+    { held = given_back (expert_of event) s.held ++ record { expert = expert_of event; question = q } ∷ [] }))
+    → ((q : Rule) → held_by (expert_of event) s.held ≡ Some q → list_any (λ r. refutes r q) s.context.rows ≡ false
     → has_premise s.accepted q.premise ≡ false → Goal (release (expert_of event) (accept (Some q) s)))
-    → ((name : RowName) (r : Set) (q : Rule) → event ≡ Row (expert_of event) name r → held_by (expert_of event) s.holds ≡ Some q
+    → ((name : RowName) (r : Set) (q : Rule) → event ≡ Row (expert_of event) name r → held_by (expert_of event) s.held ≡ Some q
     → refutes r q ≡ true → respects_all (rules_of s) r ≡ true
     → list_any (λ r. refutes r q) s.context.rows ≡ false → Goal (release (expert_of event) (record_row name r s)))
     → Goal (next s event)

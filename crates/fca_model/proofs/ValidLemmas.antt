@@ -116,8 +116,8 @@ unrefuted_holds K q e h = holds_by_rows K q e ∙ each_respects K.rows h
         turn false b h = refl
 
 module _ (s : State) (v : IsValid s) where
-  pub held_valid : (e : ℕ) (q : Rule) → held_by e s.holds ≡ Some q → IsHeld s.settings.known s.context s.accepted q
-  held_valid e q h = held_all (IsHeld s.settings.known s.context s.accepted) e s.holds q v.held h
+  pub held_valid : (e : ℕ) (q : Rule) → held_by e s.held ≡ Some q → IsHeld s.settings.known s.context s.accepted q
+  held_valid e q h = held_all (IsHeld s.settings.known s.context s.accepted) e s.held q v.held h
 
   -- the parts of the rules
   pub rules_parts : (r : Set) → respects_all (rules_of s) r ≡ true
@@ -129,25 +129,25 @@ module _ (s : State) (v : IsValid s) where
   release_valid e = record {
     known = v.known;
     accepted = v.accepted;
-    held = All-filter (λ h. not (eqb h.expert e)) (λ h. IsHeld s.settings.known s.context s.accepted h.question) s.holds v.held;
-    experts = distinct_experts-given_back e s.holds v.experts;
+    held = All-filter (λ h. not (eqb h.expert e)) (λ h. IsHeld s.settings.known s.context s.accepted h.question) s.held v.held;
+    experts = distinct_experts-given_back e s.held v.experts;
   }
 
   ask_valid : (e : ℕ) (q : Rule) → is_expert e ≡ true → Among (open_in s) q
-      → IsValid (record s { holds = given_back e s.holds ++ record { expert = e; question = q } ∷ [] })
+      → IsValid (record s { held = given_back e s.held ++ record { expert = e; question = q } ∷ [] })
   ask_valid e q i in_open =
       let P : SetHold → Type 0 = λ h. IsHeld s.settings.known s.context s.accepted h.question in
       let new : SetHold = record { expert = e; question = q } in
       record {
         known = v.known;
         accepted = v.accepted;
-        held = All-append P (given_back e s.holds) (new ∷ []) (release_valid e).held
+        held = All-append P (given_back e s.held) (new ∷ []) (release_valid e).held
             (All-cons P new [] (draw_gives_held s.settings.known s.context s.accepted q in_open) (All-nil P));
-        experts = distinct_experts-push (given_back e s.holds) new i (none_held e s.holds)
-            (distinct_experts-given_back e s.holds v.experts);
+        experts = distinct_experts-push (given_back e s.held) new i (none_held e s.held)
+            (distinct_experts-given_back e s.held v.experts);
       }
 
-  accept_valid : (e : ℕ) (q : Rule) → held_by e s.holds ≡ Some q → list_any (λ r. refutes r q) s.context.rows ≡ false
+  accept_valid : (e : ℕ) (q : Rule) → held_by e s.held ≡ Some q → list_any (λ r. refutes r q) s.context.rows ≡ false
       → has_premise s.accepted q.premise ≡ false → IsValid (release e (accept (Some q) s))
   accept_valid e q h unrefuted new =
       let held = held_valid e q h in
@@ -157,9 +157,9 @@ module _ (s : State) (v : IsValid s) where
         accepted = confirm_keeps_accepted S s.context s.accepted v.accepted q held
             (unrefuted_holds s.context q held.conclusion_wide unrefuted) new;
         held = All-weaker (λ h. IsHeld S s.context s.accepted h.question) (λ h. IsHeld S s.context (s.accepted ++ q ∷ []) h.question)
-            (λ h other. confirm_keeps_held S s.context s.accepted v.accepted q h.question other) (given_back e s.holds)
+            (λ h other. confirm_keeps_held S s.context s.accepted v.accepted q h.question other) (given_back e s.held)
             (release_valid e).held;
-        experts = distinct_experts-given_back e s.holds v.experts;
+        experts = distinct_experts-given_back e s.held v.experts;
       }
 
   record_valid : (e : ℕ) (name : RowName) (r : Set) → respects_all (rules_of s) r ≡ true → IsValid (release e (record_row name r s))
@@ -171,9 +171,9 @@ module _ (s : State) (v : IsValid s) where
             ∙ and_from (rows_respect S s.context) (respects_all S r && true) v.known (and_from (respects_all S r) true parts.0 refl);
         accepted = row_keeps_accepted S s.context s.accepted v.accepted r parts.1;
         held = All-weaker (λ h. IsHeld S s.context s.accepted h.question) (λ h. IsHeld S (with_row s.context r) s.accepted h.question)
-            (λ h other. row_keeps_held S s.context s.accepted v.accepted r parts.1 h.question other) (given_back e s.holds)
+            (λ h other. row_keeps_held S s.context s.accepted v.accepted r parts.1 h.question other) (given_back e s.held)
             (release_valid e).held;
-        experts = distinct_experts-given_back e s.holds v.experts;
+        experts = distinct_experts-given_back e s.held v.experts;
       }
 
   pub next_valid : (event : SetEvent) → is_expert (expert_of event) ≡ true → IsValid (next s event)
@@ -275,23 +275,23 @@ pub never_all_held : (s : State) → IsValid s → s.settings.holders ≡ MAX_EX
 unfolding reply_to
 never_all_held s v most e i = go s.settings.holders (open_in s) most
   where
-    free : (m : ℕ) (q : Rule) (J : List Rule) → m ≡ MAX_EXPERTS → all_held m (given_back e s.holds) (q ∷ J) ≡ false
-    free m q J is = go (all_held m (given_back e s.holds) (q ∷ J)) refl
+    free : (m : ℕ) (q : Rule) (J : List Rule) → m ≡ MAX_EXPERTS → all_held m (given_back e s.held) (q ∷ J) ≡ false
+    free m q J is = go (all_held m (given_back e s.held) (q ∷ J)) refl
       where
-        go : (b : Bool) → all_held m (given_back e s.holds) (q ∷ J) ≡ b → b ≡ false
+        go : (b : Bool) → all_held m (given_back e s.held) (q ∷ J) ≡ b → b ≡ false
         go false t = refl
         go true t =
-            let held : m ≤ holders_of q.premise (given_back e s.holds) = leb-true m (holders_of q.premise (given_back e s.holds))
-            (and_parts (leb m (holders_of q.premise (given_back e s.holds))) (all_held_rest m q J) t).0 in
-            absurd (omega (arith, others_fewer e q s.holds i v.experts, holders_of-le q.premise (given_back e s.holds)))
+            let held : m ≤ holders_of q.premise (given_back e s.held) = leb-true m (holders_of q.premise (given_back e s.held))
+            (and_parts (leb m (holders_of q.premise (given_back e s.held))) (all_held_rest m q J) t).0 in
+            absurd (omega (arith, others_fewer e q s.held i v.experts, holders_of-le q.premise (given_back e s.held)))
           where
             all_held_rest : ℕ → Rule → List Rule → Bool
-            all_held_rest m q J = list_all (λ j. leb m (holders_of j.premise (given_back e s.holds))) J
+            all_held_rest m q J = list_all (λ j. leb m (holders_of j.premise (given_back e s.held))) J
 
-    go : (m : ℕ) (J : List Rule) → m ≡ MAX_EXPERTS → draw_reply m (given_back e s.holds) J ≢ AllHeld
+    go : (m : ℕ) (J : List Rule) → m ≡ MAX_EXPERTS → draw_reply m (given_back e s.held) J ≢ AllHeld
     go m [] is h = absurd (cc)
-    go m (q ∷ J) is h = asks (least_held (given_back e s.holds) (q ∷ J))
-        (sym (ap (λ b. cond b AllHeld (asked (least_held (given_back e s.holds) (q ∷ J)))) (free m q J is)) ∙ h)
+    go m (q ∷ J) is h = asks (least_held (given_back e s.held) (q ∷ J))
+        (sym (ap (λ b. cond b AllHeld (asked (least_held (given_back e s.held) (q ∷ J)))) (free m q J is)) ∙ h)
       where
         asks : (o : Option Rule) → asked o ≢ AllHeld
         asks None h = absurd (cc)

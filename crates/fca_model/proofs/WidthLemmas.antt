@@ -127,8 +127,8 @@ module _ (s : State) (v : IsValid s) (rows : list_all (row_wide s.context.width)
       unrefuted (Some f) h = eqb-true (length f.1) n (first_with_found (λ r. refutes r q) (row_wide n) 0 s.context.rows f h rows)
       unrefuted None h = unheard (first_with (λ i. same i.premise q.premise) (length s.settings.known) s.accepted) refl
 
-  given_wide : (e : ℕ) (r : Set) → HasWideReply n (row_reply s (held_by e s.holds) r)
-  given_wide e r = go (held_by e s.holds) refl
+  given_wide : (e : ℕ) (r : Set) → HasWideReply n (row_reply s (held_by e s.held) r)
+  given_wide e r = go (held_by e s.held) refl
     where
       new : (q : Rule) → (o : Option (ℕ × Set)) → first_with (λ r. refutes r q) 0 s.context.rows ≡ o → HasWideReply n (row_new s o)
       new q (Some f) h = eqb-true (length f.1) n (first_with_found (λ r. refutes r q) (row_wide n) 0 s.context.rows f h rows)
@@ -147,14 +147,14 @@ module _ (s : State) (v : IsValid s) (rows : list_all (row_wide s.context.width)
       fitting q is (Some a) h = let below = first_missing_below 0 q.premise r a h in omega arith
       fitting q is None h = refuting q (within q.conclusion r)
 
-      go : (o : Option Rule) → held_by e s.holds ≡ o → HasWideReply n (row_reply s o r)
+      go : (o : Option Rule) → held_by e s.held ≡ o → HasWideReply n (row_reply s o r)
       go None h = tt
       go (Some q) h = fitting q (held_valid s v e q h).premise_wide (first_missing 0 q.premise r) refl
 
   reply_wide : (event : SetEvent) → HasWideReply n (reply_to s event)
   unfolding reply_to
-  reply_wide (Draw e) = draw_wide s.settings.holders (given_back e s.holds) (open_in s) (open_wide s.settings.known s.context s.accepted)
-  reply_wide (Confirm e) = confirm_wide (held_by e s.holds)
+  reply_wide (Draw e) = draw_wide s.settings.holders (given_back e s.held) (open_in s) (open_wide s.settings.known s.context s.accepted)
+  reply_wide (Confirm e) = confirm_wide (held_by e s.held)
   reply_wide (Row e name r) = given_wide e r
   reply_wide (Leave e) = tt
 

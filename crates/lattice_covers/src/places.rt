@@ -10,11 +10,11 @@ use fca_model::Memory;
 use std::alloc::Global;
 
 /// How many slots there are for each first new attribute.
-const SECONDS: usize = 64;
+const SLOTS: usize = 64;
 
 /// The slots of the latest places, all 0.
 pub(crate) fn no_places(alloc: Global, width: u32) -> Result<Vec<usize>, Memory> {
-    Ok(vec![in alloc; 0; SECONDS * width as usize]?)
+    Ok(vec![in alloc; 0; SLOTS * width as usize]?)
 }
 
 /// How many of the sets, which are in lectic order, come before x, a next larger intent of the one at place i, which is a. `latest` has for the first two new
@@ -44,7 +44,7 @@ fn slot_of<const W: usize>(new: &Bits<W>) -> usize {
         None => 0,
         Some(first) => {
             let second = new.next_member(first.saturating_add(1)).unwrap_or(0);
-            SECONDS * first as usize + second as usize % SECONDS
+            SLOTS * first as usize + second as usize % SLOTS
         }
     }
 }

@@ -7,7 +7,7 @@ use Rattle.fca_model.specs.Sets.{Set}
 use Rattle.fca_model.specs.Context.{Context}
 use Rattle.fca_model.specs.Implications.{Rule}
 use Rattle.extent_blocks.specs.Blocks.{IsExtent}
-use Rattle.lectic_basis.specs.Forced.{AreForced, IsLonger, NoneTried, IsLastTried}
+use Rattle.lectic_basis.specs.Forced.{AreForced, IsLonger, NoneToTry, IsLastToTry}
 use Rattle.lectic_basis.specs.Watches.{Watched}
 use Rattle.lectic_basis.specs.Walks.{IsBelow, IsTrying, HasFound, IsPart}
 use Rattle.lectic_basis.specs.Steps.{IsStep, IsBegun, IsFurther, HasTried, AreLeft, room_left}
@@ -37,12 +37,12 @@ module _ (S : List Rule) (K : Context) (Wanted : Watched → Type 0) {W : ℕ} (
   walk_step = left.1
 
   -- no attribute is left to be tried
-  pub walk_none : NoneTried step.intent step.lists.forced.items step.from step.end → IsWalk S K Wanted steps F
+  pub walk_none : NoneToTry step.intent step.lists.forced.items step.from step.end → IsWalk S K Wanted steps F
   walk_none none = let s = walk_step in left.2 F
       (none_found step.lists.forced.items s.below s.forced (step.end - step.from) step.end step.from (omega (arith, s.order))
       (omega arith) s.inside s.found none)
 
-  module _ {i : ℕ} (last : IsLastTried step.intent step.lists.forced.items step.from step.end i) where
+  module _ {i : ℕ} (last : IsLastToTry step.intent step.lists.forced.items step.from step.end i) where
     found_behind : HasFound S K step.intent (i + 1) (IsPart step.intent) left.0 F
     found_behind = last_found step.lists.forced.items walk_step.below walk_step.forced walk_step.inside walk_step.found last
 
@@ -88,7 +88,7 @@ walk_done S K Wanted F (step ∷ steps) none w = absurd (omega (arith, none))
 module _ {S : List Rule} {K : Context} {A : Set} {i : ℕ} {F G : Watched} {W : ℕ} {old new : Step W} (f : IsFurther K i G old new)
     (below : IsBelow S K A (i + 1) G) (forced : AreForced G.list.members A new.lists.forced.items)
     (done : (H : Watched) → HasFound S K A (i + 1) (IsPart A) G H → HasFound S K old.intent i (IsPart old.intent) F H) where
-  pub tried_none : NoneTried A new.lists.forced.items (i + 1) K.width → HasTried S K i F G old new None
+  pub tried_none : NoneToTry A new.lists.forced.items (i + 1) K.width → HasTried S K i F G old new None
   tried_none none = (
     f,
     done G (none_found new.lists.forced.items below forced (K.width - (i + 1)) K.width (i + 1)
@@ -112,7 +112,7 @@ module _ {S : List Rule} {K : Context} {A : Set} {i : ℕ} {F G : Watched} {W : 
   )
 
   pub tried_told : {E : Type 0} (r : Result (Option (Step W)) E)
-      → IfOk r (λ o. MatchOption o (NoneTried A new.lists.forced.items (i + 1) K.width) (IsBegun K A (i + 1) new.lists.forced.items))
+      → IfOk r (λ o. MatchOption o (NoneToTry A new.lists.forced.items (i + 1) K.width) (IsBegun K A (i + 1) new.lists.forced.items))
       → IfOk r (HasTried S K i F G old new)
   tried_told (Err e) told = told
   tried_told (Ok None) told = tried_none told

@@ -17,7 +17,7 @@ use Rattle.extent_blocks.specs.Blocks.{NumberedBlock, IsExtent, IsExtentWith}
 use Rattle.extent_blocks.proofs.ExtentLemmas.{extent_larger, extent_shared}
 use Rattle.lectic_basis.specs.Trees.{InFamily, IsLeastBehind, up_to, members_where, found_where}
 use Rattle.lectic_basis.specs.Walks.{IsVisit, IsBelow, IsTrying, HasFound, IsPart, IsPartBefore}
-use Rattle.lectic_basis.specs.Forced.{AreForced, IsLastTried, IsLonger, NoneTried, is_tried}
+use Rattle.lectic_basis.specs.Forced.{AreForced, IsLastToTry, IsLonger, NoneToTry, is_to_try}
 use Rattle.lectic_basis.specs.Watches.{Watched, IsFiled, IsGood, CanClose, HasMoved, IsClosedBefore, Differs, IsBounded, IsPutBefore, Covers}
 use Rattle.lectic_basis.proofs.PlaceLemmas.{up_to_member, agree_with, agree_less, up_to_less}
 use Rattle.lectic_basis.proofs.FamilyLemmas.{family_of_closed, closed_closure, same_where, where_all, where_at, where_known}
@@ -350,7 +350,7 @@ tried_parts false false true e = absurd (false≢true (sym e))
 -- where none of some attributes is tried, no member is left out
 pub none_found : {S : List Rule} {K : Context} {A : Set} {from : ℕ} {F G : Watched} (ws : List ℕ) → IsBelow S K A from F
     → AreForced G.list.members A ws → (d j i : ℕ) → j ≡ d + i → from ≤ i → j ≤ K.width
-    → HasFound S K A j (IsPart A) F G → NoneTried A ws i j → HasFound S K A i (IsPart A) F G
+    → HasFound S K A j (IsPart A) F G → NoneToTry A ws i j → HasFound S K A i (IsPart A) F G
 none_found {S = S} {K = K} {A = A} {F = F} {G = G} ws b f zero j i e least le h none = let same : j ≡ i = omega (arith, e) in
     subst (λ k. HasFound S K A k (IsPart A) F G) same h
 none_found {S = S} {K = K} {A = A} {F = F} {G = G} ws b f (suc d) j i e least le h none =
@@ -366,13 +366,13 @@ none_found {S = S} {K = K} {A = A} {F = F} {G = G} ws b f (suc d) j i e least le
 -- the last attribute that is tried
 pub last_found : {S : List Rule} {K : Context} {A : Set} {from end i : ℕ} {F G : Watched} (ws : List ℕ) → IsBelow S K A from F
     → AreForced G.list.members A ws → end ≤ K.width
-    → HasFound S K A end (IsPart A) F G → IsLastTried A ws from end i → HasFound S K A (i + 1) (IsPart A) F G
+    → HasFound S K A end (IsPart A) F G → IsLastToTry A ws from end i → HasFound S K A (i + 1) (IsPart A) F G
 last_found {end = end} {i = i} ws b f le h t =
     let inside : i < end = t.in_range in
     let least = t.at_least in
     none_found ws b f (end - (i + 1)) end (i + 1) (omega (arith, inside)) (omega (arith, least)) le h t.last
 
-pub tried_lacks : (A : Set) (ws : List ℕ) (i : ℕ) → is_tried A ws i ≡ true → get_or A i false ≡ false
+pub tried_lacks : (A : Set) (ws : List ℕ) (i : ℕ) → is_to_try A ws i ≡ true → get_or A i false ≡ false
 tried_lacks A ws i t = lacking (get_or A i false)
     (and_parts (not (get_or A i false)) (leb i (get_or ws i i) || get_or A (get_or ws i i) false) t).0
   where

@@ -19,16 +19,16 @@ AreForced J A ws = (i : ℕ) (T : Set) → within A T ≡ true → slice_index_o
     → slice_index_or T (slice_index_or ws i i) false ≡ true
 
 -- attribute i is tried below A: A lacks it, and what it forces is not before it, or A has that
-abbrev pub is_tried : Set → List ℕ → ℕ → Bool
-is_tried A ws i = not (slice_index_or A i false) && (nat_le i (slice_index_or ws i i) || slice_index_or A (slice_index_or ws i i) false)
+abbrev pub is_to_try : Set → List ℕ → ℕ → Bool
+is_to_try A ws i = not (slice_index_or A i false) && (nat_le i (slice_index_or ws i i) || slice_index_or A (slice_index_or ws i i) false)
 
 -- none of these attributes is tried
-abbrev pub NoneTried : Set → List ℕ → ℕ → ℕ → Type 0
-NoneTried A ws from end = (j : ℕ) → from ≤ j → j < end → is_tried A ws j ≡ false
+abbrev pub NoneToTry : Set → List ℕ → ℕ → ℕ → Type 0
+NoneToTry A ws from end = (j : ℕ) → from ≤ j → j < end → is_to_try A ws j ≡ false
 
 -- i is the last of these attributes that is tried
-pub record IsLastTried (A : Set) (ws : List ℕ) (from end i : ℕ) : Type 0 where
+pub record IsLastToTry (A : Set) (ws : List ℕ) (from end i : ℕ) : Type 0 where
   pub at_least : from ≤ i
   pub in_range : i < end
-  pub tried : is_tried A ws i ≡ true
-  pub last : NoneTried A ws (i + 1) end
+  pub tried : is_to_try A ws i ≡ true
+  pub last : NoneToTry A ws (i + 1) end

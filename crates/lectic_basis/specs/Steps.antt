@@ -5,7 +5,7 @@ use Rattle.fca_model.specs.Sets.{Set}
 use Rattle.fca_model.specs.Context.{Context}
 use Rattle.fca_model.specs.Implications.{Rule}
 use Rattle.extent_blocks.specs.Blocks.{IsExtent}
-use Rattle.lectic_basis.specs.Forced.{AreForced, NoneTried}
+use Rattle.lectic_basis.specs.Forced.{AreForced, NoneToTry}
 use Rattle.lectic_basis.specs.Watches.{Watched}
 use Rattle.lectic_basis.specs.Walks.{IsBelow, HasFound, IsPart}
 use Rattle.fca_model.specs.Room.{room}
@@ -28,7 +28,7 @@ pub record IsBegun (K : Context) (A : Set) (start : ℕ) (ws : List ℕ) {W : �
   pub forced : step.lists.forced.items ≡ ws
   pub order : start ≤ step.end
   pub inside : step.end ≤ K.width
-  pub none : NoneTried A ws step.end K.width
+  pub none : NoneToTry A ws step.end K.width
 
 -- the step is at the same intent, attribute i was tried, and now G is found
 pub record IsFurther (K : Context) (i : ℕ) (G : Watched) {W : ℕ} (old new : Step W) : Type 0 where

@@ -13,9 +13,6 @@ use std::alloc::Global;
 /// A table with no more rows than this is left as it is.
 const FEW_ROWS: usize = 256;
 
-/// What hashes are multiplied by: 2^64 divided by the golden ratio.
-const FACTOR: u64 = 0x9E37_79B9_7F4A_7C15;
-
 /// The rows without most of their repetitions, or all of them if few repeat.
 pub(crate) fn without_repetitions<const W: usize>(
     alloc: Global,
@@ -80,17 +77,5 @@ fn slot_of<const W: usize>(a: &Bits<W>, slots: usize) -> usize
     requires { 0 < slots }
     ensures { result < slots }
 {
-    (hash_of(a) >> 48) as usize & (slots - 1)
-}
-
-/// A number by the members of the set. Any number would be right, so no contract speaks of it.
-fn hash_of<const W: usize>(a: &Bits<W>) -> u64 {
-    let _width = a.width();
-    let mut hash = 0u64;
-    let mut from = 0;
-    while let Some(member) = a.next_member(from) {
-        hash = hash.wrapping_add(member as u64 + 1).wrapping_mul(FACTOR);
-        from = member + 1;
-    }
-    hash
+    (a.hash() >> 48) as usize & (slots - 1)
 }

@@ -7,7 +7,7 @@ ghost use Rattle.fca_model.specs.Sets.{within};
 ghost use Rattle.fca_model.specs.Context.{closure};
 ghost use Rattle.fca_model.specs.Implications.{Rule};
 ghost use Rattle.extent_blocks.specs.Blocks.{IsExtent, IsExtentWith};
-ghost use Rattle.lectic_basis.specs.Forced.{AreForced, IsLastTried, IsLonger, NoneTried, is_tried};
+ghost use Rattle.lectic_basis.specs.Forced.{AreForced, IsLastToTry, IsLonger, NoneToTry, is_to_try};
 ghost use Rattle.lectic_basis.specs.Watches.{Watched, IsBounded};
 ghost use Rattle.lectic_basis.specs.Walks.{IsVisit, IsBelow, IsTrying, HasFound, IsPart, IsPartBefore};
 ghost use Rattle.lectic_basis.specs.Steps.{IsStep, IsBegun, HasTried};
@@ -136,7 +136,7 @@ fn step_below<const W: usize>(
     requires wide { length a.now ≡ indexed.now.width }
     requires near { IsExtentWith indexed.now a.now i parent.now.near }
     ensures { IfOk result (λ step. MatchOption step
-        (NoneTried a.now parent.now.forced.items (i + 1) indexed.now.width)
+        (NoneToTry a.now parent.now.forced.items (i + 1) indexed.now.width)
         (IsBegun indexed.now a.now (i + 1) parent.now.forced.items)) }
 {
     let width = indexed.rows().width();
@@ -157,10 +157,10 @@ fn step_below<const W: usize>(
 fn last_to_try<const W: usize>(a: &Bits<W>, forced: &[u32], from: u32, end: u32) -> Option<u32>
     requires order { from ≤ end }
     requires inside { end ≤ length a.now }
-    ensures { MatchOption result (NoneTried a.now forced.now from end) (IsLastTried a.now forced.now from end) }
+    ensures { MatchOption result (NoneToTry a.now forced.now from end) (IsLastToTry a.now forced.now from end) }
 {
     for i in (from..end).rev() {
-        if is_tried(a, forced, i) {
+        if is_to_try(a, forced, i) {
             return Some(i);
         }
     }
@@ -168,9 +168,9 @@ fn last_to_try<const W: usize>(a: &Bits<W>, forced: &[u32], from: u32, end: u32)
 }
 
 /// Whether attribute i is tried below a: a lacks it, and it is not seen to force one before it that a lacks.
-fn is_tried<const W: usize>(a: &Bits<W>, forced: &[u32], i: u32) -> bool
+fn is_to_try<const W: usize>(a: &Bits<W>, forced: &[u32], i: u32) -> bool
     requires { i < length a.now }
-    ensures { result ≡ is_tried a.now forced.now i }
+    ensures { result ≡ is_to_try a.now forced.now i }
 {
     if a.has(i) {
         return false;

@@ -6,7 +6,7 @@ ghost use Rattle.fca_model.specs.Context.{is_closed};
 ghost use Rattle.lectic_concepts.specs.Branches.{branch, AreWitnesses};
 ghost use Rattle.lectic_concepts.specs.Steps.{IsStep, IsBegun, IsLastChild};
 
-use crate::failures::{copy_witnesses, is_child, is_tried, note};
+use crate::failures::{copy_witnesses, is_child, is_to_try, note};
 use attr_bits::Bits;
 use derivation::RowsOf;
 use fca_model::Memory;
@@ -97,7 +97,7 @@ pub(crate) fn child_at<const W: usize>(
         (λ D. branch rows.now a.now i ≡ branch rows.now a.now (i + 1) ++ branch rows.now D (i + 1)) }
     ensures witnesses { AreWitnesses rows.now a.now witnesses.new.items }
 {
-    if !is_tried(rows, a, i, witnesses) {
+    if !is_to_try(rows, a, i, witnesses) {
         return None;
     }
     let closed = rows.closure(&a.with(i));

@@ -31,7 +31,7 @@ pub fn own_witnesses<const W: usize>(
 }
 
 /// Whether the closure of a with attribute i is to be computed: a lacks i, and there is no witness for i that stands before i and that a lacks.
-pub fn is_tried<const W: usize>(rows: &RowsOf<W>, a: &Bits<W>, i: u32, witnesses: &[u32]) -> bool
+pub fn is_to_try<const W: usize>(rows: &RowsOf<W>, a: &Bits<W>, i: u32, witnesses: &[u32]) -> bool
     requires wide { length a.now ≡ rows.now.width }
     requires inside { i < rows.now.width }
     requires witnesses { AreWitnesses rows.now a.now witnesses.now }

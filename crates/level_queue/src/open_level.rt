@@ -32,7 +32,7 @@ pub(crate) fn open_level<S: LevelSearch>(
     requires { CanOpen rows.now rules.now ahead.now }
     ensures { IfOk result (λ level. IsOpened rows.now rules.now level.size level.questions level.ahead) }
 {
-    let next = search.open_next(alloc, rows, rules, ahead)?;
+    let next = search.find_next(alloc, rows, rules, ahead)?;
     let level = next.level;
     Ok(OpenLevel {
         questions: OpenQuestions::new(alloc, level.members)?,

@@ -97,7 +97,7 @@ impl<const W: usize> LevelWalk<W> {
     }
 
     /// The open sets that agree with the least set before attribute `from`, or come before it.
-    pub(crate) fn open_behind(
+    pub(crate) fn open_sets_behind(
         &self,
         alloc: Global,
         from: u32,
@@ -136,7 +136,12 @@ impl<const W: usize> LevelWalk<W> {
     }
 
     /// The open sets of the branch of attribute i. The list gets one more implication: that they contain the least set of the branch. So nothing comes before it.
-    fn open_in_branch(&self, alloc: Global, i: u32, limits: Limits) -> Result<OpenSets<W>, Memory>
+    fn open_sets_in_branch(
+        &self,
+        alloc: Global,
+        i: u32,
+        limits: Limits,
+    ) -> Result<OpenSets<W>, Memory>
         requires { i < self.now.indexed.width }
         ensures listed { IfOk result (λ sets. sets.members.items ≡ open_where self.now.list.members self.now.indexed sets.bound (in_branch i self.now.least)) }
         ensures steady { IfOk result (λ sets. sets.members.items ≡ [] → sets.bound ≡ limits.bound) }
@@ -194,7 +199,7 @@ impl<const W: usize> LevelWalk<W> {
     }
 
     /// The open sets of part k. Part 0 has what agrees with the least set before attribute `count`, and the next parts are the branches before, the last first.
-    pub(crate) fn open_in_part(
+    pub(crate) fn open_sets_in_part(
         &self,
         alloc: Global,
         count: u32,
@@ -207,9 +212,9 @@ impl<const W: usize> LevelWalk<W> {
         ensures { IfOk result (λ sets. AreOpen self.now.list.members self.now.indexed (in_part count k self.now.least) limits.bound sets.bound sets.members.items) }
     {
         if k == 0 {
-            return self.open_behind(alloc, count, limits);
+            return self.open_sets_behind(alloc, count, limits);
         }
-        self.open_in_branch(alloc, count - k, limits)
+        self.open_sets_in_branch(alloc, count - k, limits)
     }
 }
 

@@ -59,12 +59,12 @@ pub fn next_level(alloc: Global, rows: &Rows, rules: &ImplicationList) -> Result
         → IfOk result (λ level. IsNextLevel known rows.now found level.size level.members.items) }
 {
     let nothing = Ahead::none(alloc, rows.width())?;
-    let opened = OneThread.open_next(alloc, rows, rules, &nothing)?;
+    let opened = OneThread.find_next(alloc, rows, rules, &nothing)?;
     Ok(opened.level)
 }
 
 /// The next level by a walker, in sets as narrow as the table.
-fn open_next_by<X: Walker<1> + Walker<2> + Walker<4> + Walker<8> + Walker<WORDS>>(
+fn find_next_by<X: Walker<1> + Walker<2> + Walker<4> + Walker<8> + Walker<WORDS>>(
     walker: &X,
     alloc: Global,
     rows: &Rows,
@@ -75,16 +75,16 @@ fn open_next_by<X: Walker<1> + Walker<2> + Walker<4> + Walker<8> + Walker<WORDS>
     ensures { IfOk result (λ opened. IsOpened rows.now rules.now opened.level.size opened.level.members.items opened.ahead) }
 {
     match WordCount::of(rows.width()) {
-        WordCount::One => open_next_in_words::<X, 1>(walker, alloc, rows, rules, ahead),
-        WordCount::Two => open_next_in_words::<X, 2>(walker, alloc, rows, rules, ahead),
-        WordCount::Four => open_next_in_words::<X, 4>(walker, alloc, rows, rules, ahead),
-        WordCount::Eight => open_next_in_words::<X, 8>(walker, alloc, rows, rules, ahead),
-        WordCount::All => open_next_in_words::<X, WORDS>(walker, alloc, rows, rules, ahead),
+        WordCount::One => find_next_in_words::<X, 1>(walker, alloc, rows, rules, ahead),
+        WordCount::Two => find_next_in_words::<X, 2>(walker, alloc, rows, rules, ahead),
+        WordCount::Four => find_next_in_words::<X, 4>(walker, alloc, rows, rules, ahead),
+        WordCount::Eight => find_next_in_words::<X, 8>(walker, alloc, rows, rules, ahead),
+        WordCount::All => find_next_in_words::<X, WORDS>(walker, alloc, rows, rules, ahead),
     }
 }
 
 /// The next level by a walker, in sets of W words.
-fn open_next_in_words<X: Walker<W>, const W: usize>(
+fn find_next_in_words<X: Walker<W>, const W: usize>(
     walker: &X,
     alloc: Global,
     rows: &Rows,
@@ -140,16 +140,16 @@ fn find_open_sets<X: Walker<W>, const W: usize>(
 {
     let _width = walk.list.width();
     for bound in 0..sizes_in_turn(&walk.list) {
-        let seen = open_up_to(walker, alloc, walk, Limits { bound, visits: 0 })?;
+        let seen = open_sets_up_to(walker, alloc, walk, Limits { bound, visits: 0 })?;
         if !seen.members.is_empty() {
             return Ok(seen);
         }
     }
     let bound = walk.indexed.rows().width();
     let visits = walk.list.as_slice().len().saturating_mul(VISITS);
-    match open_up_to(walker, alloc, walk, Limits { bound, visits }) {
+    match open_sets_up_to(walker, alloc, walk, Limits { bound, visits }) {
         Ok(seen) => Ok(seen),
-        Err(_) => open_up_to(walker, alloc, walk, Limits { bound, visits: 0 }),
+        Err(_) => open_sets_up_to(walker, alloc, walk, Limits { bound, visits: 0 }),
     }
 }
 
@@ -165,7 +165,7 @@ fn sizes_in_turn<const W: usize>(rules: &ImplicationListOf<W>) -> u32 {
 }
 
 /// The open sets up to the bound of the limits, which is raised to the size of the least set.
-fn open_up_to<X: Walker<W>, const W: usize>(
+fn open_sets_up_to<X: Walker<W>, const W: usize>(
     walker: &X,
     alloc: Global,
     walk: &LevelWalk<W>,

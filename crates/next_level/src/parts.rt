@@ -32,7 +32,7 @@ impl<R: Threads> Spawner<R> {
 
 impl<const W: usize> LevelWalk<W> {
     /// All open sets, part by part. Several threads share the parts, and each piece that `collect` makes of their list has about as much to do.
-    pub(crate) fn open_parts<R: Threads>(
+    pub(crate) fn open_sets_by_parts<R: Threads>(
         &self,
         rt: &R,
         alloc: Global,
@@ -67,7 +67,7 @@ impl<const W: usize> LevelWalk<W> {
                     requires { (place ≤ count) × (count ≤ self.now.indexed.width) × (size self.now.least ≤ limits.bound) }
                     ensures { IfOk result (λ sets. AreOpen self.entry.now.list.members self.entry.now.indexed
                         (in_part count (part_at count place) self.entry.now.least) limits.bound sets.bound sets.members.items) }
-                { self.open_in_part(alloc, count, part_at(count, place), limits) },
+                { self.open_sets_in_part(alloc, count, part_at(count, place), limits) },
             )
             .with_min_len(1)
             .collect::<Result<Vec<_>, Memory>>(rt, alloc);

@@ -8,7 +8,7 @@ ghost use Rattle.next_level.specs.Openings.{CanOpen, IsOpened};
 use crate::ahead::Ahead;
 use crate::branches::{LevelWalk, Limits, Walker};
 use crate::open_sets::OpenSets;
-use crate::{FoundLevel, open_next_by};
+use crate::{FoundLevel, find_next_by};
 use derivation::Rows;
 use fca_model::Memory;
 use implication_closure::ImplicationList;
@@ -24,7 +24,7 @@ pub const MOST_PARTS: u32 = 32;
 /// A way to look for the next level.
 pub trait LevelSearch {
     /// The next level that has a member, looked for among candidates if these are whole. It also returns candidates for later levels.
-    fn open_next(
+    fn find_next(
         &self,
         alloc: Global,
         rows: &Rows,
@@ -40,14 +40,14 @@ pub trait LevelSearch {
 pub struct OneThread;
 
 impl LevelSearch for OneThread {
-    fn open_next(
+    fn find_next(
         &self,
         alloc: Global,
         rows: &Rows,
         rules: &ImplicationList,
         ahead: &Ahead,
     ) -> Result<FoundLevel, Memory> {
-        open_next_by(self, alloc, rows, rules, ahead)
+        find_next_by(self, alloc, rows, rules, ahead)
     }
 }
 
@@ -59,14 +59,14 @@ pub struct SideBySide<'a, R> {
 }
 
 impl<'a, R: Threads> LevelSearch for SideBySide<'a, R> {
-    fn open_next(
+    fn find_next(
         &self,
         alloc: Global,
         rows: &Rows,
         rules: &ImplicationList,
         ahead: &Ahead,
     ) -> Result<FoundLevel, Memory> {
-        open_next_by(self, alloc, rows, rules, ahead)
+        find_next_by(self, alloc, rows, rules, ahead)
     }
 }
 
@@ -110,7 +110,7 @@ impl<const W: usize> Walker<W> for OneThread {
         ensures listed { IfOk result (λ sets. sets.members.items ≡ open_where walk.now.list.members walk.now.indexed sets.bound everything) }
         ensures steady { IfOk result (λ sets. sets.members.items ≡ [] → sets.bound ≡ limits.bound) }
     {
-        walk.open_behind(alloc, 0, limits)
+        walk.open_sets_behind(alloc, 0, limits)
     }
 }
 
@@ -128,9 +128,9 @@ impl<'a, R: Threads, const W: usize> Walker<W> for SideBySide<'a, R> {
         if self.most_threads > 1 && walk.pays(limits) {
             let width = walk.indexed.rows().width();
             let branches = self.branches(width, walk.has_rules());
-            let all = walk.open_parts(self.rt, alloc, branches, limits)?;
+            let all = walk.open_sets_by_parts(self.rt, alloc, branches, limits)?;
             return Ok(all);
         }
-        walk.open_behind(alloc, 0, limits)
+        walk.open_sets_behind(alloc, 0, limits)
     }
 }

@@ -95,11 +95,11 @@ module _ (e f : ℕ) (other : eqb e f ≡ false) where
           both false more = more
 
 -- an event of another leaves what f holds
-pub held_by_other : (s : State) (x : SetEvent) (f : ℕ) → eqb (expert_of x) f ≡ false → held_by f (next s x).holds ≡ held_by f s.holds
+pub held_by_other : (s : State) (x : SetEvent) (f : ℕ) → eqb (expert_of x) f ≡ false → held_by f (next s x).held ≡ held_by f s.held
 held_by_other s x f other =
-    let still = held_still (expert_of x) f other s.holds in
-    by_change s x (λ t. held_by f t.holds ≡ held_by f s.holds) refl still
-    (λ q _. held_past (expert_of x) f other q (given_back (expert_of x) s.holds) ∙ still) (λ _ _ _ _. still) (λ _ _ _ _ _ _ _ _. still)
+    let still = held_still (expert_of x) f other s.held in
+    by_change s x (λ t. held_by f t.held ≡ held_by f s.held) refl still
+    (λ q _. held_past (expert_of x) f other q (given_back (expert_of x) s.held) ∙ still) (λ _ _ _ _. still) (λ _ _ _ _ _ _ _ _. still)
 
 -- ---- a question that is open is not stale
 
@@ -173,7 +173,7 @@ Bounded c n s cs (Some q) = n + 1 + 2 * c ≤ 2 * rows_and_rules s + dropped cs 
 
 abbrev pub Holding : ℕ → State → Option Rule → Type 0
 Holding e s None = Unit {0}
-Holding e s (Some q) = held_by e s.holds ≡ Some q
+Holding e s (Some q) = held_by e s.held ≡ Some q
 
 at_most_two : (b : Bool) → to_come b ≤ 2
 at_most_two true = omega arith
@@ -216,7 +216,7 @@ module _ (D : NamedContext) (e : ℕ) (i : is_expert e ≡ true) (c : ℕ) where
       → Holding e s due → Turned n s cs due (event_due D e cs due)
   own_turn n s cs None v holders b held =
       draws s D e cs (Step n) v holders i
-      (λ q among. inr (asked q among, held_new e q s.holds))
+      (λ q among. inr (asked q among, held_new e q s.held))
       (inl (refl, omega arith))
     where
       asked : (q : Rule) → Among (open_in s) q → Bounded c (n + 1) s cs (Some q)
@@ -353,7 +353,7 @@ module _ (s : State) where
 
   draw_adds : (e : ℕ) → Adds (next s (Draw e)) (reply_to s (Draw e))
   unfolding after reply_to
-  draw_adds e = go (draw_reply s.settings.holders (given_back e s.holds) (open_in s)) (draw_not_recorded s e)
+  draw_adds e = go (draw_reply s.settings.holders (given_back e s.held) (open_in s)) (draw_not_recorded s e)
     where
       go : (reply : SetReply) → is_recorded reply ≡ false → Adds (after_draw e s reply) reply
       go (Accepted k) h = absurd (false≢true (sym h))
@@ -362,20 +362,20 @@ module _ (s : State) where
 
   confirm_adds : (e : ℕ) → Adds (next s (Confirm e)) (reply_to s (Confirm e))
   unfolding after reply_to
-  confirm_adds e = go (held_by e s.holds) refl
+  confirm_adds e = go (held_by e s.held) refl
     where
-      unheard : (q : Rule) → held_by e s.holds ≡ Some q → (o : Option (ℕ × Rule))
+      unheard : (q : Rule) → held_by e s.held ≡ Some q → (o : Option (ℕ × Rule))
           → Adds (after_confirm e s (confirm_unheard s o)) (confirm_unheard s o)
       unheard q held (Some found) = omega arith
       unheard q held None = subst (λ o. rows_and_rules (release e (accept o s)) ≡ rows_and_rules s + 1) (sym held)
           (omega (arith, length-append s.accepted (q ∷ [])))
 
-      unrefuted : (q : Rule) → held_by e s.holds ≡ Some q → (o : Option (ℕ × Set))
+      unrefuted : (q : Rule) → held_by e s.held ≡ Some q → (o : Option (ℕ × Set))
           → Adds (after_confirm e s (confirm_unrefuted s q o)) (confirm_unrefuted s q o)
       unrefuted q held (Some found) = omega arith
       unrefuted q held None = unheard q held (first_with (λ i. same i.premise q.premise) (length s.settings.known) s.accepted)
 
-      go : (o : Option Rule) → held_by e s.holds ≡ o → Adds (after_confirm e s (confirm_reply s o)) (confirm_reply s o)
+      go : (o : Option Rule) → held_by e s.held ≡ o → Adds (after_confirm e s (confirm_reply s o)) (confirm_reply s o)
       go None h = omega arith
       go (Some q) h = unrefuted q h (first_with (λ r. refutes r q) 0 s.context.rows)
 
@@ -384,7 +384,7 @@ module _ (s : State) where
 
   row_adds : (e : ℕ) (name : RowName) (r : Set) → Adds (next s (Row e name r)) (reply_to s (Row e name r))
   unfolding after reply_to
-  row_adds e name r = go (held_by e s.holds)
+  row_adds e name r = go (held_by e s.held)
     where
       new : (o : Option (ℕ × Set)) → RowAdds e name r (row_new s o)
       new (Some found) = omega arith

@@ -66,7 +66,7 @@ module _ (D : NamedContext) (e : ℕ) where
   abbrev AnsweredBy : State → Rule → Conflicts → SetEvent → Type 0
   AnsweredBy s q cs x = Answered s q (next s x) (moment_after D (moment (Some q) cs) (reply_to s x)) (reply_to s x)
 
-  fresh_answer : (s : State) (q : Rule) (cs : Conflicts) → held_by e s.holds ≡ Some q → is_stale s q ≡ false
+  fresh_answer : (s : State) (q : Rule) (cs : Conflicts) → held_by e s.held ≡ Some q → is_stale s q ≡ false
       → AnsweredBy s q cs (event_due D e cs (Some q))
   fresh_answer s q cs held fresh = go (counterexample D cs q) refl
     where
@@ -85,11 +85,11 @@ module _ (D : NamedContext) (e : ℕ) where
 
   -- what is known from a state on, where the question is held and not stale
   abbrev On : State → Rule → List SetEntry → List SetEntry → Type 0
-  On s q between rest = (cs : Conflicts) → held_by e s.holds ≡ Some q → is_stale s q ≡ false
+  On s q between rest = (cs : Conflicts) → held_by e s.held ≡ Some q → is_stale s q ≡ false
       → OracleRunsFrom D e (moment (Some q) cs) (own rest e) → 1 ≤ answers_recorded_in between
 
   -- until a draw of the expert comes, something is recorded
-  until_recorded : (es : List SetEvent) (s : State) (cs : Conflicts) (q : Rule) → held_by e s.holds ≡ Some q → is_stale s q ≡ false
+  until_recorded : (es : List SetEvent) (s : State) (cs : Conflicts) (q : Rule) → held_by e s.held ≡ Some q → is_stale s q ≡ false
       → (between after : List SetEntry) (second : SetEntry)
       → journal_of s es ≡ between ++ second ∷ after → second.event ≡ Draw e
       → OracleRunsFrom D e (moment (Some q) cs) (own (between ++ second ∷ after) e) → 1 ≤ answers_recorded_in between
@@ -128,7 +128,7 @@ module _ (D : NamedContext) (e : ℕ) where
       mine on f (inr same) run =
           let m = moment_after D (moment (Some q) cs) b.reply in
           let due : m.due ≡ Some q = ap (λ r. (moment_after D (moment (Some q) cs) r).due) reply ∙ same.1 in
-          on m.conflicts (ap (λ (t : State). held_by e t.holds) same.0 ∙ held) (fresh_on f)
+          on m.conflicts (ap (λ (t : State). held_by e t.held) same.0 ∙ held) (fresh_on f)
           (subst (λ d. OracleRunsFrom D e (moment d m.conflicts) (own (between ++ second ∷ after) e)) due run)
 
       go : On (next s x) q between (between ++ second ∷ after) → is_recorded b.reply ≡ false → (c : Bool) → eqb (expert_of b.event) e ≡ c
@@ -143,7 +143,7 @@ module _ (D : NamedContext) (e : ℕ) where
 
   -- the draw is answered by an open question, which the expert holds, or by Done
   abbrev Drawn : State → OracleMoment → SetReply → Type 0
-  Drawn t m reply = (is_done reply ≡ true) ⊎ ((q : Rule) × (held_by e t.holds ≡ Some q) × (is_stale t q ≡ false) × (m.due ≡ Some q))
+  Drawn t m reply = (is_done reply ≡ true) ⊎ ((q : Rule) × (held_by e t.held ≡ Some q) × (is_stale t q ≡ false) × (m.due ≡ Some q))
 
   abbrev DrawnFrom : State → Conflicts → SetEvent → Type 0
   DrawnFrom s cs x = Drawn (next s x) (moment_after D (moment None cs) (reply_to s x)) (reply_to s x)
@@ -191,7 +191,7 @@ module _ (D : NamedContext) (e : ℕ) where
 
         drawn : DrawnFrom s m.conflicts x
         drawn = subst (DrawnFrom s m.conflicts) (sym is_draw)
-            (draws s D e m.conflicts Drawn v holders i (λ q among. inr (q, held_new e q s.holds, open_fresh s q among, refl)) (inl refl))
+            (draws s D e m.conflicts Drawn v holders i (λ q among. inr (q, held_new e q s.held, open_fresh s q among, refl)) (inl refl))
 
         due : (d : Option Rule) → OracleRunsFrom D e (moment d m.conflicts) (first ∷ own (between ++ second ∷ after) e)
             → 1 ≤ answers_recorded_in between

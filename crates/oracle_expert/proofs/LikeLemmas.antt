@@ -128,7 +128,7 @@ module _ (D : Context) (T : NamedContext) (like : IsLike D T.context) (e : ℕ) 
       → Turned s (no_conflict T) due (event_due T e (no_conflict T) due)
   within_turn s None v open_to wide inside held =
       draws s T e (no_conflict T) Step v open_to.all i
-      (λ q _. (record { rows = inside.rows; rules = inside.rules }, refl, held_new e q s.holds))
+      (λ q _. (record { rows = inside.rows; rules = inside.rules }, refl, held_new e q s.held))
       (record { rows = inside.rows; rules = inside.rules }, refl, tt)
   within_turn s (Some q) v open_to wide inside held = go (counterexample T (no_conflict T) q) refl
     where

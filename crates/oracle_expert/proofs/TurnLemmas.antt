@@ -71,7 +71,7 @@ is_stale s q = list_any (λ r. refutes r q) s.context.rows || has_premise s.acce
 
 -- e holds q and nothing else
 abbrev pub holding : ℕ → Rule → State → State
-holding e q s = record s { holds = given_back e s.holds ++ record { expert = e; question = q } ∷ [] }
+holding e q s = record s { held = given_back e s.held ++ record { expert = e; question = q } ∷ [] }
 
 abbrev pub moment : Option Rule → Conflicts → OracleMoment
 moment due conflicts = record { due = due; conflicts = conflicts }
@@ -82,19 +82,19 @@ module _ (s : State) (D : NamedContext) (e : ℕ) (conflicts : Conflicts) (Goal 
       → Goal (release e s) (moment None conflicts) Done
       → Goal (next s (Draw e)) (moment_after D (moment None conflicts) (reply_to s (Draw e))) (reply_to s (Draw e))
   unfolding after reply_to
-  draws v holders i ask done = go (draw_reply s.settings.holders (given_back e s.holds) (open_in s)) refl
+  draws v holders i ask done = go (draw_reply s.settings.holders (given_back e s.held) (open_in s)) refl
     where
-      none_other : (r : SetReply) → draw_reply s.settings.holders (given_back e s.holds) (open_in s) ≡ r → is_drawn r ≡ false → ⊥
-      none_other r h f = false≢true (sym (ap is_drawn h ∙ f) ∙ drawn s.settings.holders (given_back e s.holds) (open_in s))
+      none_other : (r : SetReply) → draw_reply s.settings.holders (given_back e s.held) (open_in s) ≡ r → is_drawn r ≡ false → ⊥
+      none_other r h f = false≢true (sym (ap is_drawn h ∙ f) ∙ drawn s.settings.holders (given_back e s.held) (open_in s))
 
-      go : (r : SetReply) → draw_reply s.settings.holders (given_back e s.holds) (open_in s) ≡ r
+      go : (r : SetReply) → draw_reply s.settings.holders (given_back e s.held) (open_in s) ≡ r
           → Goal (after_draw e s r) (moment_after D (moment None conflicts) r) r
-      go (Ask q) h = ask q (draw_asks s.settings.holders (given_back e s.holds) (open_in s) q h)
+      go (Ask q) h = ask q (draw_asks s.settings.holders (given_back e s.held) (open_in s) q h)
       go Done h = done
       go AllHeld h = absurd (never_all_held s v holders e i h)
       go r h = absurd (none_other r h refl)
 
-  module _ (q : Rule) (held : held_by e s.holds ≡ Some q) where
+  module _ (q : Rule) (held : held_by e s.held ≡ Some q) where
     pub confirms : (list_any (λ r. refutes r q) s.context.rows ≡ false → has_premise s.accepted q.premise ≡ false → (k : ℕ)
         → Goal (release e (accept (Some q) s)) (moment None conflicts) (Accepted k))
         → (is_stale s q ≡ true → (reply : SetReply) → Goal (release e s) (moment None conflicts) reply)

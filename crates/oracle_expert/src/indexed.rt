@@ -17,7 +17,7 @@ pub(crate) enum IndexedCopy {
     Four(IndexedRows<4>),
     Eight(IndexedRows<8>),
     /// The attributes need more words. No copy is kept.
-    Wide,
+    NoCopy,
 }
 
 /// A copy of the rows in the fewest words that have room for them.
@@ -29,6 +29,6 @@ pub(crate) fn indexed_copy(alloc: Global, rows: &Rows) -> Result<IndexedCopy, Me
         WordCount::Two => IndexedCopy::Two(IndexedRows::new(alloc, rows.resize(alloc)?)?),
         WordCount::Four => IndexedCopy::Four(IndexedRows::new(alloc, rows.resize(alloc)?)?),
         WordCount::Eight => IndexedCopy::Eight(IndexedRows::new(alloc, rows.resize(alloc)?)?),
-        WordCount::All => IndexedCopy::Wide,
+        WordCount::All => IndexedCopy::NoCopy,
     })
 }

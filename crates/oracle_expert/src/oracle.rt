@@ -126,7 +126,7 @@ fn counterexample(
         IndexedCopy::Two(indexed) => counterexample_on(alloc, indexed, conflicts, question),
         IndexedCopy::Four(indexed) => counterexample_on(alloc, indexed, conflicts, question),
         IndexedCopy::Eight(indexed) => counterexample_on(alloc, indexed, conflicts, question),
-        IndexedCopy::Wide => counterexample_among(table.rows(), conflicts, question),
+        IndexedCopy::NoCopy => counterexample_among(table.rows(), conflicts, question),
     }
 }
 

@@ -141,7 +141,7 @@ impl<'a, R: Files> FileShelf<'a, R> {
     fn count_fault(&mut self) -> Taken
         ensures fault { result ≡ Taken.Failed }
         ensures counted { self.new ≡ one_more self.old }
-        ensures later { self.old ≤ self.new }
+        ensures only_rise { self.old ≤ self.new }
     {
         self.faults = self.faults.saturating_add(1);
         Taken::Failed

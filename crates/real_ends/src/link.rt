@@ -113,7 +113,7 @@ impl<'a, R: Net<Listener = TcpListener, Stream = TcpStream>> TcpLink<'a, R> {
 
     fn count_fault(&mut self) -> Failed
         ensures counted { self.new.faults ≡ one_more self.old.faults }
-        ensures later { self.old.faults ≤ self.new.faults }
+        ensures only_rise { self.old.faults ≤ self.new.faults }
         ensures same { self.new.listens ≡ self.old.listens }
     {
         self.faults = self.faults.saturating_add(1);

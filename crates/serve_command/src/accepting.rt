@@ -47,8 +47,8 @@ fn accept_ends<L: Listener>(alloc: Global, link: &mut L, count: u8) -> Result<Ve
         (Rose (L.accept_faults link.old) (L.accept_faults link.new)) stop) }
 
     ensures same { (L.listens link.new ≡ true) × (L.listens_at link.new ≡ L.listens_at link.old) }
-    ensures later { (other : List ℕ) → L.open_faults link.old other ≤ L.open_faults link.new other }
-    ensures later_accept { L.accept_faults link.old ≤ L.accept_faults link.new }
+    ensures only_rise { (other : List ℕ) → L.open_faults link.old other ≤ L.open_faults link.new other }
+    ensures only_rise_accept { L.accept_faults link.old ≤ L.accept_faults link.new }
     ensures quiet_open { UnlessListener result (SameCounts (L.open_faults link.old) (L.open_faults link.new)) }
     ensures quiet_accept { UnlessListener result (L.accept_faults link.new ≡ L.accept_faults link.old) }
 {

@@ -86,7 +86,7 @@ impl Source for MemoryEnd {
         ensures bytes { ReadConsumes (Some self.old.incoming.bytes) (Some self.new.incoming.bytes) result into.new }
         ensures quiet { OnOk result (self.new.incoming.plan.faults ≡ self.old.incoming.plan.faults) }
         ensures failed { OnErr result (Rose self.old.incoming.plan.faults self.new.incoming.plan.faults) }
-        ensures later { self.old.incoming.plan.faults ≤ self.new.incoming.plan.faults }
+        ensures only_rise { self.old.incoming.plan.faults ≤ self.new.incoming.plan.faults }
 
         ensures other { self.new.outgoing ≡ self.old.outgoing }
     {
@@ -125,7 +125,7 @@ impl Sink for MemoryEnd {
         ensures counted { Some self.new.outgoing.whole_writes ≡ counts_whole (length from.now) result (Some self.old.outgoing.whole_writes) }
         ensures quiet { OnOk result (self.new.outgoing.plan.faults ≡ self.old.outgoing.plan.faults) }
         ensures failed { OnErr result (Rose self.old.outgoing.plan.faults self.new.outgoing.plan.faults) }
-        ensures later { self.old.outgoing.plan.faults ≤ self.new.outgoing.plan.faults }
+        ensures only_rise { self.old.outgoing.plan.faults ≤ self.new.outgoing.plan.faults }
 
         ensures other { self.new.incoming ≡ self.old.incoming }
     {

@@ -102,7 +102,7 @@ impl Listener for MemoryLink {
         ensures within { IsWithinRoom (Some self.old.ends) }
         ensures quiet { OnOk result (self.new.plan.faults ≡ self.old.plan.faults) }
         ensures failed { OnErr result (Rose self.old.plan.faults self.new.plan.faults) }
-        ensures later { self.old.plan.faults ≤ self.new.plan.faults }
+        ensures only_rise { self.old.plan.faults ≤ self.new.plan.faults }
     {
         if self.calls.next_fails() {
             return Err(Failed);
@@ -130,7 +130,7 @@ impl Listener for MemoryLink {
         ensures same { (self.new.listens ≡ self.old.listens) × (self.new.address ≡ self.old.address) }
         ensures quiet { OnOk result (self.new.plan.faults ≡ self.old.plan.faults) }
         ensures failed { OnErr result (Rose self.old.plan.faults self.new.plan.faults) }
-        ensures later { self.old.plan.faults ≤ self.new.plan.faults }
+        ensures only_rise { self.old.plan.faults ≤ self.new.plan.faults }
     {
         if self.calls.next_fails() {
             return Err(Failed);

@@ -45,7 +45,7 @@ impl FailingCalls {
     pub fn next_fails(&mut self) -> bool
         ensures fails { result ≡ fails_next self.old }
         ensures after { self.new ≡ after_call self.old }
-        ensures later { self.old.faults ≤ self.new.faults }
+        ensures only_rise { self.old.faults ≤ self.new.faults }
     {
         self.made = one_more(self.made);
         let fails = self.fails.contains(&self.made);
@@ -58,7 +58,7 @@ impl FailingCalls {
     /// Counts a fault.
     pub fn count_fault(&mut self)
         ensures after { self.new ≡ with_fault self.old }
-        ensures later { self.old.faults ≤ self.new.faults }
+        ensures only_rise { self.old.faults ≤ self.new.faults }
     {
         self.faults = one_more(self.faults);
     }

@@ -108,7 +108,7 @@ impl Shelf for MemoryShelf {
 
         ensures quiet { ¬ IsErrOf result Taken.Failed → (other : List ℕ) → self.new.plan.faults ≡ self.old.plan.faults }
         ensures failed { IsErrOf result Taken.Failed → Rose self.old.plan.faults self.new.plan.faults }
-        ensures later { (other : List ℕ) → self.old.plan.faults ≤ self.new.plan.faults }
+        ensures only_rise { (other : List ℕ) → self.old.plan.faults ≤ self.new.plan.faults }
     {
         if self.calls.next_fails() {
             return Err(Taken::Failed);

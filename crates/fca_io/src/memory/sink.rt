@@ -95,7 +95,7 @@ impl Sink for MemorySink {
         ensures counted { Some self.new.whole_writes ≡ counts_whole (length from.now) result (Some self.old.whole_writes) }
         ensures quiet { OnOk result (self.new.plan.faults ≡ self.old.plan.faults) }
         ensures failed { OnErr result (Rose self.old.plan.faults self.new.plan.faults) }
-        ensures later { self.old.plan.faults ≤ self.new.plan.faults }
+        ensures only_rise { self.old.plan.faults ≤ self.new.plan.faults }
     {
         if self.calls.next_fails() {
             return Err(Failed);

@@ -123,7 +123,7 @@ impl Source for MemorySource {
         ensures bytes { ReadConsumes (Some self.old.bytes) (Some self.new.bytes) result into.new }
         ensures quiet { OnOk result (self.new.plan.faults ≡ self.old.plan.faults) }
         ensures failed { OnErr result (Rose self.old.plan.faults self.new.plan.faults) }
-        ensures later { self.old.plan.faults ≤ self.new.plan.faults }
+        ensures only_rise { self.old.plan.faults ≤ self.new.plan.faults }
     {
         if self.calls.next_fails() {
             return Err(Failed);

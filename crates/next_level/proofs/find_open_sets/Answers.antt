@@ -21,6 +21,6 @@ pub returns-in-Err-clause-all : goal.returns-in-Err-clause-all
 returns-in-Err-clause-all g c =
     let n : c.width-bound.result ≡ c.args.walk.now.indexed.width = c.width-bound.ensures.width
     ∙ ap (λ (X : Context). X.width) c.rows.ensures in
-    IfOk-weaker c.open_up_to-in-Err.result (λ sets. sets.members.items ≡ [] → c.width-bound.result ≤ sets.bound)
+    IfOk-weaker c.open_sets_up_to-in-Err.result (λ sets. sets.members.items ≡ [] → c.width-bound.result ≤ sets.bound)
     (λ sets. sets.members.items ≡ [] → c.args.walk.now.indexed.width ≤ sets.bound)
-    (λ sets h e. let le = h e in omega (arith, n, le)) c.open_up_to-in-Err.ensures.kept
+    (λ sets h e. let le = h e in omega (arith, n, le)) c.open_sets_up_to-in-Err.ensures.kept

@@ -55,7 +55,7 @@ returns-in_err-known-clause-cause g c =
       c.in_ok-table.ensures.table,
       IsKnownStop-same known c.in_ok-table.table tells (g.H.Shelf.tells c.load_table.new.shelf) (Rises between after)
           (Rises counts after) stop c.in_ok-table.ensures.kept
-          (λ other. Rises-before counts between after other c.in_ok-table.ensures.later) c.in_err-known.ensures.cause,
+          (λ other. Rises-before counts between after other c.in_ok-table.ensures.only_rise) c.in_err-known.ensures.cause,
     ))
 
 pub returns-clause-start : goal.returns-clause-start

@@ -7,13 +7,13 @@ use Rattle.concept_walk.specs.declared.branch.LargerIntent.{LargerIntent}
 use Rattle.extent_places.proofs.TryLemmas.{branch-between, branch-behind}
 use Rattle.concept_walk.proofs.branch.next_child.Goals as goal
 
-pub loop-i-preserved-then-not-is_tried : goal.loop-i-preserved-then-not-is_tried
-loop-i-preserved-then-not-is_tried g c =
+pub loop-i-preserved-then-not-is_to_try : goal.loop-i-preserved-then-not-is_to_try
+loop-i-preserved-then-not-is_to_try g c =
     let K : Context = c.args.crosses.now in
     let A : Set = c.args.node.now.intent.now in
     let last = c.in-Some.ensures in
     let same : branch K A c.in-Some.i ≡ branch K A (c.in-Some.i + 1) =
-    subst (λ (J : Context). branch J A c.in-Some.i ≡ branch J A (c.in-Some.i + 1)) c.rows-rows.ensures c.if-not-is_tried.ensures in
+    subst (λ (J : Context). branch J A c.in-Some.i ≡ branch J A (c.in-Some.i + 1)) c.rows-rows.ensures c.if-not-is_to_try.ensures in
     record {
       from_on = last.0;
       inside = omega (arith, last.1, c.loop-i.invariant.inside);

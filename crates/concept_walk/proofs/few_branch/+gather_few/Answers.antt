@@ -65,13 +65,13 @@ loop-i-init g t c =
           (sym (branch_end K A a) ∙ ap (branch K A) (sym width)) c.in_ok-add.ensures.added;
     }
 
-pub loop-i-preserved-then-not-is_tried : goal.loop-i-preserved-then-not-is_tried
-loop-i-preserved-then-not-is_tried g t c =
+pub loop-i-preserved-then-not-is_to_try : goal.loop-i-preserved-then-not-is_to_try
+loop-i-preserved-then-not-is_to_try g t c =
     let K : Context = c.args.crosses.now in
     let A : Set = c.args.node.now.intent.now in
     let last = c.in-Some.ensures in
     let same : branch K A c.in-Some.i ≡ branch K A (c.in-Some.i + 1) =
-    subst (λ (J : Context). branch J A c.in-Some.i ≡ branch J A (c.in-Some.i + 1)) c.rows-rows.ensures c.if-not-is_tried.ensures in
+    subst (λ (J : Context). branch J A c.in-Some.i ≡ branch J A (c.in-Some.i + 1)) c.rows-rows.ensures c.if-not-is_to_try.ensures in
     let behind = branch-behind K c.rows-rows.result.now A c.tries_of-tries.result c.in-Some.i c.loop-i.end c.rows-rows.ensures
     c.tries_of-tries.ensures.tries last.1 c.loop-i.invariant.inside last.2 in
     record {

@@ -12,7 +12,7 @@ returns-clause-written g c = writes-from
     (g.E.Source.reads c.write_greeting.new.sink) (g.E.Sink.asked_beside c.args.end.now)
     (g.E.Sink.asked_beside c.write_greeting.new.sink)
     c.write_greeting.ensures.whole c.write_greeting.ensures.front c.write_greeting.ensures.quiet c.write_greeting.ensures.failed
-    c.write_greeting.ensures.later
+    c.write_greeting.ensures.only_rise
     c.write_greeting.ensures.beside c.write_greeting.ensures.same_beside
     (g.met.E.Duplex.left_beside c.args.end.now) (g.met.E.Duplex.left_beside c.write_greeting.new.sink)
     (g.met.E.Duplex.reads_beside c.args.end.now) (g.met.E.Duplex.reads_beside c.write_greeting.new.sink)

@@ -11,7 +11,7 @@ returns-in-Replied-clause-written g c = rw c.in-Replied.is (writes-from
     (g.E.Sink.beside c.args.end.now) (g.E.Sink.beside c.write_at_once.new.sink) (g.E.Source.reads c.args.end.now)
     (g.E.Source.reads c.write_at_once.new.sink) (g.E.Sink.asked_beside c.args.end.now) (g.E.Sink.asked_beside c.write_at_once.new.sink)
     c.write_at_once.ensures.whole c.write_at_once.ensures.front c.write_at_once.ensures.quiet c.write_at_once.ensures.failed
-    c.write_at_once.ensures.later c.write_at_once.ensures.beside c.write_at_once.ensures.same_beside
+    c.write_at_once.ensures.only_rise c.write_at_once.ensures.beside c.write_at_once.ensures.same_beside
     (g.met.E.Duplex.left_beside c.args.end.now) (g.met.E.Duplex.left_beside c.write_at_once.new.sink)
     (g.met.E.Duplex.reads_beside c.args.end.now) (g.met.E.Duplex.reads_beside c.write_at_once.new.sink))
 

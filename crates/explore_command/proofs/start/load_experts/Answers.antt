@@ -60,7 +60,7 @@ loop-place-preserved g c =
       subst IsWide (sym pushed) (All-push (λ (t : NamedContext). t.context.width ≡ table.context.width) c.loop-place.tables.items expert
           inv.2 c.in_ok-expert_table.ensures.wide),
       (λ other. c.in_ok-expert_table.ensures.kept other ∙ inv.3 other),
-      (λ other. (let before = inv.4 other in let now = c.in_ok-expert_table.ensures.later other in omega arith)),
+      (λ other. (let before = inv.4 other in let now = c.in_ok-expert_table.ensures.only_rise other in omega arith)),
       (λ other. c.in_ok-expert_table.ensures.quiet other ∙ inv.5 other),
       fetched_then (g.H.Shelf.fetches c.args.shelf.now) (g.H.Shelf.fetches c.loop-place.shelf) (g.H.Shelf.fetches c.load_expert.new.shelf)
           c.loop-place.place 1 inv.6

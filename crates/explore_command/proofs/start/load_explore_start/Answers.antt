@@ -45,7 +45,7 @@ returns-in_err-tables-clause-cause g c =
       c.in_ok-start.ensures.start,
       IsExpertsStop-same start.table 0 c.args.files.now tells now (Rises between after)
           (Rises counts after) stop c.in_ok-start.ensures.kept
-          (λ other. Rises-before counts between after other c.in_ok-start.ensures.later) c.in_err-tables.ensures.cause,
+          (λ other. Rises-before counts between after other c.in_ok-start.ensures.only_rise) c.in_err-tables.ensures.cause,
     ))
 
 pub explore_start_of-requires-clause-may : goal.explore_start_of-requires-clause-may

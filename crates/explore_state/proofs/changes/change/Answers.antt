@@ -51,5 +51,5 @@ returns-in-Leave-clause-ok g c = λ s shown.
     (record {
       context = shown.context;
       accepted = shown.accepted;
-      holds = ap (given_back c.in-Leave.expert) shown.holds ∙ sym c.give_back.ensures.held;
+      held = ap (given_back c.in-Leave.expert) shown.held ∙ sym c.give_back.ensures.held;
     })

@@ -40,7 +40,7 @@ returns-in_err-plan-clause-cause g c =
     (IsScaleStop c.args.values.now c.args.plan.now tells (Rises counts after)) c.from_residual-in_err-plan.ensures.1
     (scale-stop c.args.values.now c.args.plan.now tells
     (g.H.Shelf.tells c.load_values.new.shelf) counts between after c.in_ok-values.values stop
-    c.in_ok-values.ensures.values c.in_ok-values.ensures.kept c.in_ok-values.ensures.later c.in_err-plan.ensures.cause)
+    c.in_ok-values.ensures.values c.in_ok-values.ensures.kept c.in_ok-values.ensures.only_rise c.in_err-plan.ensures.cause)
 
 pub returns-in_err-values-clause-quiet : goal.returns-in_err-values-clause-quiet
 returns-in_err-values-clause-quiet g c =

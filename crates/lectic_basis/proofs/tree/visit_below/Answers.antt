@@ -1,6 +1,6 @@
 use Rattle.std.proofs.Common.{ℕ, List, ◌∷◌, ◌++◌, [], ◌∙◌, sym, ap, subst, arith}
 use Rattle.fca_model.specs.Context.{Context}
-use Rattle.lectic_basis.specs.Forced.{NoneTried, IsLastTried}
+use Rattle.lectic_basis.specs.Forced.{NoneToTry, IsLastToTry}
 use Rattle.lectic_basis.specs.Walks.{HasFound, IsPart}
 use Rattle.lectic_basis.specs.Watches.{Watched}
 use Rattle.lectic_basis.specs.declared.tree.Step.{Step}
@@ -38,7 +38,7 @@ loop-step-preserved-in_default-last_to_try g c =
     let Wanted : Watched → Type 0 = HasFound S K first.intent first.from (IsPart first.intent) c.args.found.now in
     let walk = subst (λ (xs : List (Step g.row.W)). IsWalk S K Wanted xs c.loop-step.found) c.in-Some.ensures.items c.loop-step.invariant in
     walk_none S K Wanted c.pop.new.self.items c.in-Some.step c.loop-step.found walk
-    (subst (λ (ws : List ℕ). NoneTried c.in-Some.step.intent ws c.in-Some.step.from c.in-Some.step.end) c.deref.ensures.value
+    (subst (λ (ws : List ℕ). NoneToTry c.in-Some.step.intent ws c.in-Some.step.from c.in-Some.step.end) c.deref.ensures.value
     c.in_default-last_to_try.ensures)
 
 pub next_below-requires : goal.next_below-requires
@@ -49,7 +49,7 @@ next_below-requires g c =
     let Wanted : Watched → Type 0 = HasFound S K first.intent first.from (IsPart first.intent) c.args.found.now in
     let walk = subst (λ (xs : List (Step g.row.W)). IsWalk S K Wanted xs c.loop-step.found) c.in-Some.ensures.items c.loop-step.invariant in
     let s = walk_step S K Wanted c.pop.new.self.items c.in-Some.step c.loop-step.found walk in
-    let last = subst (λ (ws : List ℕ). IsLastTried c.in-Some.step.intent ws c.in-Some.step.from c.in-Some.step.end c.in-Some-last_to_try.i)
+    let last = subst (λ (ws : List ℕ). IsLastToTry c.in-Some.step.intent ws c.in-Some.step.from c.in-Some.step.end c.in-Some-last_to_try.i)
     c.deref.ensures.value c.in-Some-last_to_try.ensures in (
       omega arith,
       (
@@ -71,7 +71,7 @@ loop-step-smaller-in_default-below g c =
     let first : Step g.row.W = c.args.first in
     let Wanted : Watched → Type 0 = HasFound S K first.intent first.from (IsPart first.intent) c.args.found.now in
     let walk = subst (λ (xs : List (Step g.row.W)). IsWalk S K Wanted xs c.loop-step.found) c.in-Some.ensures.items c.loop-step.invariant in
-    let last = subst (λ (ws : List ℕ). IsLastTried c.in-Some.step.intent ws c.in-Some.step.from c.in-Some.step.end c.in-Some-last_to_try.i)
+    let last = subst (λ (ws : List ℕ). IsLastToTry c.in-Some.step.intent ws c.in-Some.step.from c.in-Some.step.end c.in-Some-last_to_try.i)
     c.deref.ensures.value c.in-Some-last_to_try.ensures in
     let tried = rw c.in_default-below.is at c.in_ok-below.ensures in
     room_tried K.width c.pop.new.self.items c.in-Some.step c.in-Some.ensures.items c.next_below.new.step c.in_ok-push-2.ensures.items
@@ -85,7 +85,7 @@ loop-step-preserved-in_default-below g c =
     let first : Step g.row.W = c.args.first in
     let Wanted : Watched → Type 0 = HasFound S K first.intent first.from (IsPart first.intent) c.args.found.now in
     let walk = subst (λ (xs : List (Step g.row.W)). IsWalk S K Wanted xs c.loop-step.found) c.in-Some.ensures.items c.loop-step.invariant in
-    let last = subst (λ (ws : List ℕ). IsLastTried c.in-Some.step.intent ws c.in-Some.step.from c.in-Some.step.end c.in-Some-last_to_try.i)
+    let last = subst (λ (ws : List ℕ). IsLastToTry c.in-Some.step.intent ws c.in-Some.step.from c.in-Some.step.end c.in-Some-last_to_try.i)
     c.deref.ensures.value c.in-Some-last_to_try.ensures in
     let tried = rw c.in_default-below.is at c.in_ok-below.ensures in
     subst (λ (xs : List (Step g.row.W)). IsWalk S K Wanted xs c.next_below.new.found) (sym c.in_ok-push-2.ensures.items)
@@ -99,7 +99,7 @@ loop-step-smaller g c =
     let first : Step g.row.W = c.args.first in
     let Wanted : Watched → Type 0 = HasFound S K first.intent first.from (IsPart first.intent) c.args.found.now in
     let walk = subst (λ (xs : List (Step g.row.W)). IsWalk S K Wanted xs c.loop-step.found) c.in-Some.ensures.items c.loop-step.invariant in
-    let last = subst (λ (ws : List ℕ). IsLastTried c.in-Some.step.intent ws c.in-Some.step.from c.in-Some.step.end c.in-Some-last_to_try.i)
+    let last = subst (λ (ws : List ℕ). IsLastToTry c.in-Some.step.intent ws c.in-Some.step.from c.in-Some.step.end c.in-Some-last_to_try.i)
     c.deref.ensures.value c.in-Some-last_to_try.ensures in
     let tried = rw c.in-Some-below.is at c.in_ok-below.ensures in
     room_deeper K.width c.pop.new.self.items c.in-Some.step c.in-Some.ensures.items c.next_below.new.step c.in_ok-push-2.ensures.items
@@ -114,7 +114,7 @@ loop-step-preserved g c =
     let first : Step g.row.W = c.args.first in
     let Wanted : Watched → Type 0 = HasFound S K first.intent first.from (IsPart first.intent) c.args.found.now in
     let walk = subst (λ (xs : List (Step g.row.W)). IsWalk S K Wanted xs c.loop-step.found) c.in-Some.ensures.items c.loop-step.invariant in
-    let last = subst (λ (ws : List ℕ). IsLastTried c.in-Some.step.intent ws c.in-Some.step.from c.in-Some.step.end c.in-Some-last_to_try.i)
+    let last = subst (λ (ws : List ℕ). IsLastToTry c.in-Some.step.intent ws c.in-Some.step.from c.in-Some.step.end c.in-Some-last_to_try.i)
     c.deref.ensures.value c.in-Some-last_to_try.ensures in
     let tried = rw c.in-Some-below.is at c.in_ok-below.ensures in
     let one = c.in_ok-push-2.ensures.items in

@@ -2,7 +2,7 @@ use Rattle.std.proofs.Common.{◌≡◌, ◌∙◌, subst, arith}
 use Rattle.implication_closure.specs.Closing.{RuleList}
 use Rattle.next_level.specs.NextLevel.{open_where, everything}
 use Rattle.next_level.proofs.NextLevelLemmas.{members_wide, told_next, told_ahead}
-use Rattle.next_level.proofs.open_next_in_words.Goals as goal
+use Rattle.next_level.proofs.find_next_in_words.Goals as goal
 
 pub least_of-requires : goal.least_of-requires
 least_of-requires g c =

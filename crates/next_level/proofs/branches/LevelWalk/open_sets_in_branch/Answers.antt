@@ -5,7 +5,7 @@ use Rattle.next_level.proofs.BranchLemmas.{root_wide, branch_parts, branch_taken
 use Rattle.next_level.proofs.BranchLemmas.{branch_entered, branch_among, branch_done}
 use Rattle.next_level.specs.Branches.{in_branch}
 use Rattle.next_level.proofs.ConcernLemmas.{concerning_listed, concerning_among}
-use Rattle.next_level.proofs.branches.LevelWalk.open_in_branch.Goals as goal
+use Rattle.next_level.proofs.branches.LevelWalk.open_sets_in_branch.Goals as goal
 
 pub returns-then-has-clause-listed : goal.returns-then-has-clause-listed
 returns-then-has-clause-listed g c =

@@ -1,7 +1,7 @@
 use Rattle.std.proofs.Common.{◌∙◌, sym, arith}
 use Rattle.explore_state.proofs.HolderLemmas.{holders_counted, holders_skipped}
-use Rattle.explore_state.proofs.holds.other_holders.Goals as goal
-use Rattle.explore_state.proofs.holds.other_holders.Goals.{then-is_other, else-is_other}
+use Rattle.explore_state.proofs.held.other_holders.Goals as goal
+use Rattle.explore_state.proofs.held.other_holders.Goals.{then-is_other, else-is_other}
 
 pub loop-hold-preserved : goal.loop-hold-preserved
 loop-hold-preserved c =

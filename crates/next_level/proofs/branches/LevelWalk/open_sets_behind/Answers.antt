@@ -4,7 +4,7 @@ use Rattle.lectic_basis.specs.Trees.{up_to}
 use Rattle.lectic_basis.proofs.PlaceLemmas.{up_to_agree, within_not_before}
 use Rattle.next_level.proofs.BranchLemmas.{root_entered}
 use Rattle.next_level.proofs.ConcernLemmas.{concerning_listed, concerning_among}
-use Rattle.next_level.proofs.branches.LevelWalk.open_behind.Goals as goal
+use Rattle.next_level.proofs.branches.LevelWalk.open_sets_behind.Goals as goal
 
 pub enter_all-requires : goal.enter_all-requires
 enter_all-requires g c =

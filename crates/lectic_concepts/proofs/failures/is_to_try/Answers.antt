@@ -1,7 +1,7 @@
 use Rattle.std.proofs.Common.{◌≡◌, ℕ, get_or, sym, ap, ◌∙◌, arith}
 use Rattle.std.specs.Prelude.{unwrap_or}
 use Rattle.lectic_concepts.proofs.FailureLemmas.{at_member, open_or_seen}
-use Rattle.lectic_concepts.proofs.failures.is_tried.Goals as goal
+use Rattle.lectic_concepts.proofs.failures.is_to_try.Goals as goal
 
 pub returns-then-has : goal.returns-then-has
 returns-then-has g c = at_member c.args.rows.now c.args.a.now c.args.i (sym c.has.ensures ∙ c.if-has.true)
