@@ -8,11 +8,10 @@ use Rattle.std.proofs.lemmas.Iterator.Adapters.{position_from-zero}
 use Rattle.std.specs.List.{position_from}
 use Rattle.fca_model.specs.Sets.{Set, within, same}
 use Rattle.fca_model.specs.Implications.{Rule, rule, respects, refutes}
-use Rattle.fca_model.specs.Exploration.{State, rules_of, first_with, first_missing, row_reply, confirm_reply, confirm_unrefuted}
-use Rattle.fca_model.specs.Exploration.{confirm_unheard}
+use Rattle.fca_model.specs.Exploration.{State, rules_of, first_with, first_missing, row_reply, confirm_reply}
 use Rattle.fca_model.specs.Exploration as step
 use Rattle.answer_check.specs.Verdicts.{row_reply_for, confirm_reply_for, row_verdict, row_fitting, row_refuting, row_unbroken}
-use Rattle.answer_check.specs.Verdicts.{row_unanswered, confirm_verdict, confirmed, unrefuted, IsOnRow, IsOnConfirmation}
+use Rattle.answer_check.specs.Verdicts.{row_new, confirm_verdict, confirm_unrefuted, confirm_unheard, IsOnRow, IsOnConfirmation}
 
 -- ---- places
 
@@ -83,7 +82,7 @@ module _ {X : Type 0} (p : X → Bool) (d : X) where
 
 module _ (s : State) (q : Rule) where
   unanswered : (m : Option ℕ) → position (λ r. refutes r q) s.context.rows ≡ m
-      → step.row_new s (first_with (λ r. refutes r q) 0 s.context.rows) ≡ row_reply_for s (row_unanswered m)
+      → step.row_new s (first_with (λ r. refutes r q) 0 s.context.rows) ≡ row_reply_for s (row_new m)
   unanswered None e = ap (step.row_new s) (first_none (λ r. refutes r q) [] 0 s.context.rows e)
   unanswered (Some i) e = ap (step.row_new s) (first_at (λ r. refutes r q) [] i s.context.rows e)
 
@@ -108,17 +107,17 @@ module _ (s : State) (q : Rule) where
   -- ---- a confirmation
 
   unheard : (m : Option ℕ) → position (λ i. same i.premise q.premise) s.accepted ≡ m
-      → confirm_unheard s (first_with (λ i. same i.premise q.premise) (length s.settings.known) s.accepted) ≡ confirm_reply_for s
-      (unrefuted m)
-  unheard None e = ap (confirm_unheard s) (first_none (λ i. same i.premise q.premise) (rule [] []) (length s.settings.known) s.accepted e)
-  unheard (Some i) e = ap (confirm_unheard s) (first_some (λ i. same i.premise q.premise) (rule [] [])
+      → step.confirm_unheard s (first_with (λ i. same i.premise q.premise) (length s.settings.known) s.accepted) ≡ confirm_reply_for s
+      (confirm_unheard m)
+  unheard None e = ap (step.confirm_unheard s) (first_none (λ i. same i.premise q.premise) (rule [] []) (length s.settings.known) s.accepted e)
+  unheard (Some i) e = ap (step.confirm_unheard s) (first_some (λ i. same i.premise q.premise) (rule [] [])
       (length s.settings.known) i s.accepted e).1
 
   confirming : (m : Option ℕ) → position (λ r. refutes r q) s.context.rows ≡ m
-      → confirm_unrefuted s q (first_with (λ r. refutes r q) 0 s.context.rows) ≡ confirm_reply_for s (confirmed s.accepted q m)
-  confirming None e = ap (confirm_unrefuted s q) (first_none (λ r. refutes r q) [] 0 s.context.rows e)
+      → step.confirm_unrefuted s q (first_with (λ r. refutes r q) 0 s.context.rows) ≡ confirm_reply_for s (confirm_unrefuted s.accepted q m)
+  confirming None e = ap (step.confirm_unrefuted s q) (first_none (λ r. refutes r q) [] 0 s.context.rows e)
       ∙ unheard (position (λ i. same i.premise q.premise) s.accepted) refl
-  confirming (Some i) e = ap (confirm_unrefuted s q) (first_at (λ r. refutes r q) [] i s.context.rows e)
+  confirming (Some i) e = ap (step.confirm_unrefuted s q) (first_at (λ r. refutes r q) [] i s.context.rows e)
 
   -- the reply to a confirmation is the one that its verdict stands for
   pub confirm_reply-verdict : confirm_reply s (Some q) ≡ confirm_reply_for s (confirm_verdict s.context.rows s.accepted q)
@@ -127,7 +126,7 @@ module _ (s : State) (q : Rule) where
 -- ---- the places are in range
 
 module _ (rows : List Set) (rules : List Rule) (q : Rule) where
-  row_new_case : (m : Option ℕ) → position (λ r. refutes r q) rows ≡ m → IsOnRow rows rules (row_unanswered m)
+  row_new_case : (m : Option ℕ) → position (λ r. refutes r q) rows ≡ m → IsOnRow rows rules (row_new m)
   row_new_case None e = tt
   row_new_case (Some i) e = (first_some (λ r. refutes r q) [] 0 i rows e).0
 
@@ -146,11 +145,11 @@ module _ (rows : List Set) (rules : List Rule) (q : Rule) where
   pub IsOnRow-verdict : (r : Set) → IsOnRow rows rules (row_verdict rows rules q r)
   IsOnRow-verdict r = row_fitting_case r (first_missing 0 q.premise r)
 
-  unrefuted_case : (m : Option ℕ) → position (λ i. same i.premise q.premise) rules ≡ m → IsOnConfirmation rows rules (unrefuted m)
+  unrefuted_case : (m : Option ℕ) → position (λ i. same i.premise q.premise) rules ≡ m → IsOnConfirmation rows rules (confirm_unheard m)
   unrefuted_case None e = tt
   unrefuted_case (Some i) e = (first_some (λ i. same i.premise q.premise) (rule [] []) 0 i rules e).0
 
-  confirmed_case : (m : Option ℕ) → position (λ r. refutes r q) rows ≡ m → IsOnConfirmation rows rules (confirmed rules q m)
+  confirmed_case : (m : Option ℕ) → position (λ r. refutes r q) rows ≡ m → IsOnConfirmation rows rules (confirm_unrefuted rules q m)
   confirmed_case None e = unrefuted_case (position (λ i. same i.premise q.premise) rules) refl
   confirmed_case (Some i) e = (first_some (λ r. refutes r q) [] 0 i rows e).0
 

@@ -53,12 +53,12 @@ IsOnConfirmation rows accepted v = ⊥
 
 -- ---- the verdicts, case by case
 
-abbrev pub row_unanswered : Option ℕ → Verdict
-row_unanswered None = verdict.Take
-row_unanswered (Some i) = verdict.SupersededRow i
+abbrev pub row_new : Option ℕ → Verdict
+row_new None = verdict.Take
+row_new (Some i) = verdict.SupersededRow i
 
 abbrev pub row_unbroken : List Set → Rule → Option ℕ → Verdict
-row_unbroken rows q None = row_unanswered (position (λ r. refutes r q) rows)
+row_unbroken rows q None = row_new (position (λ r. refutes r q) rows)
 row_unbroken rows q (Some i) = verdict.Breaks i
 
 abbrev pub row_refuting : List Set → List Rule → Rule → Set → Bool → Verdict
@@ -73,14 +73,14 @@ row_fitting rows rules q r (Some a) = verdict.Misses a
 abbrev pub row_verdict : List Set → List Rule → Rule → Set → Verdict
 row_verdict rows rules q r = row_fitting rows rules q r (first_missing 0 q.premise r)
 
-abbrev pub unrefuted : Option ℕ → Verdict
-unrefuted None = verdict.Take
-unrefuted (Some i) = verdict.SupersededBy i
+abbrev pub confirm_unheard : Option ℕ → Verdict
+confirm_unheard None = verdict.Take
+confirm_unheard (Some i) = verdict.SupersededBy i
 
-abbrev pub confirmed : List Rule → Rule → Option ℕ → Verdict
-confirmed accepted q None = unrefuted (position (λ i. same i.premise q.premise) accepted)
-confirmed accepted q (Some i) = verdict.Refuted i
+abbrev pub confirm_unrefuted : List Rule → Rule → Option ℕ → Verdict
+confirm_unrefuted accepted q None = confirm_unheard (position (λ i. same i.premise q.premise) accepted)
+confirm_unrefuted accepted q (Some i) = verdict.Refuted i
 
 -- on a confirmation of the question q
 abbrev pub confirm_verdict : List Set → List Rule → Rule → Verdict
-confirm_verdict rows accepted q = confirmed accepted q (position (λ r. refutes r q) rows)
+confirm_verdict rows accepted q = confirm_unrefuted accepted q (position (λ r. refutes r q) rows)

@@ -13,7 +13,7 @@ use Rattle.fca_model.specs.Implications.{Rule, rule}
 use Rattle.fca_model.specs.Exploration.{Settings, SetEntry, IsLegal, opening}
 use Rattle.expert_wire.specs.Texts.{line_end, ordinal, pattern}
 use Rattle.expert_wire.specs.Replies.{numbered_rule}
-use Rattle.expert_wire.specs.Words.{is_name}
+use Rattle.expert_wire.specs.Patterns.{is_name}
 use Rattle.expert_wire.proofs.ReadLemmas.{pattern_no_break}
 use Rattle.expert_wire.proofs.SkipLemmas.{Skips, Skips-nil, Skips-append, Skips-comment, no_break-append, no_break-decimal, no_break-name}
 use Rattle.expert_wire.proofs.SkipLemmas.{no_break-rule}

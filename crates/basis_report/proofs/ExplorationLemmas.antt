@@ -13,7 +13,7 @@ use Rattle.expert_wire.specs.Texts.{line_end}
 use Rattle.expert_scripts.specs.Transcripts.{transcript}
 use Rattle.report_texts.specs.Reports.{count_line}
 use Rattle.std.specs.List.{flat_map, enumerate_from}
-use Rattle.basis_report.specs.Explorations.{recorded_section, accepted_section, open_section, basis_section, sections, state_of_text}
+use Rattle.basis_report.specs.Explorations.{recorded_section, accepted_section, open_section, basis_section, sections, state_of_history}
 use Rattle.basis_report.specs.Explorations.{explore_text, transcript_of, lists_of, basis_of}
 
 pub sections-known : (attributes : List Text) (H : List SetEntry) (s : State) (S : List Rule) → s.settings.known ≡ S
@@ -61,21 +61,21 @@ written T G k J J' A Q A' Q' = transcript T.attributes G J
 
 -- the questions open after the history, relative to what was known
 abbrev open_after : NamedContext → Settings → List SetEntry → List Rule
-open_after t settings H = open_questions settings.known (state_of_text t settings H).context (state_of_text t settings H).accepted
+open_after t settings H = open_questions settings.known (state_of_history t settings H).context (state_of_history t settings H).accepted
 
 pub explore_text-parts : (t : NamedContext) (settings : Settings) (H : List SetEntry)
     → (T : NamedContext) → T ≡ t → (G : Settings) → G ≡ settings → (S : List Rule) → S ≡ settings.known → (J : List SetEntry) → J ≡ H
     → (J' : List SetEntry) → J' ≡ H
-    → (A : List Rule) → A ≡ (state_of_text t settings H).accepted → (Q : List Rule)
-    → Q ≡ open_questions settings.known (state_of_text t settings H).context (state_of_text t settings H).accepted
-    → (A' : List Rule) → A' ≡ (state_of_text t settings H).accepted → (Q' : List Rule)
-    → Q' ≡ open_questions settings.known (state_of_text t settings H).context (state_of_text t settings H).accepted
+    → (A : List Rule) → A ≡ (state_of_history t settings H).accepted → (Q : List Rule)
+    → Q ≡ open_questions settings.known (state_of_history t settings H).context (state_of_history t settings H).accepted
+    → (A' : List Rule) → A' ≡ (state_of_history t settings H).accepted → (Q' : List Rule)
+    → Q' ≡ open_questions settings.known (state_of_history t settings H).context (state_of_history t settings H).accepted
     → transcript T.attributes G J ++ (recorded_section J'
     ++ (accepted_section T.attributes (length S) A ++ (open_section T.attributes Q ++ basis_section T.attributes A' Q')))
     ≡ explore_text t settings H
 unfolding explore_text
 explore_text-parts t settings H T eT G eG S eS J eJ J' eJ' A eA Q eQ A' eA' Q' eQ' =
-    let s = state_of_text t settings H in
+    let s = state_of_history t settings H in
     let k = length settings.known in
     let open_ = open_after t settings H in
     ap (λ x. written x G (length S) J J' A Q A' Q') eT ∙ ap (λ x. written t x (length S) J J' A Q A' Q') eG

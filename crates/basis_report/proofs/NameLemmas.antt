@@ -7,7 +7,7 @@ use Rattle.std.proofs.Math.ListN.{drop_of_length-le}
 use Rattle.std.proofs.lemmas.Option.{slice_get_within, get_or_from_slice_get}
 use Rattle.fca_model.specs.Names.{IsName}
 use Rattle.fca_model.specs.Tables.{Text}
-use Rattle.expert_wire.specs.Words.{is_name}
+use Rattle.expert_wire.specs.Patterns.{is_name}
 use Rattle.expert_scripts.specs.Transcripts.{AreNames}
 
 -- one more name is valid

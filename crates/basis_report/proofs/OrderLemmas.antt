@@ -26,9 +26,9 @@ use Rattle.fca_model.proofs.ValidLemmas.{opening_valid}
 use Rattle.fca_model.proofs.CourseLemmas.{run_settings}
 use Rattle.fca_model.proofs.SortedLemmas.{before_trans}
 use Rattle.expert_scripts.specs.Transcripts.{transcript}
-use Rattle.report_texts.specs.Reports.{count_line, arrow_lines}
+use Rattle.report_texts.specs.Reports.{count_line, implication_lines}
 use Rattle.basis_report.specs.Explorations.{recorded_section, accepted_section, open_section, in_lectic_order, basis_lines, basis_section}
-use Rattle.basis_report.specs.Explorations.{state_of_text, explore_text, text_before_basis}
+use Rattle.basis_report.specs.Explorations.{state_of_history, explore_text, text_before_basis}
 use Rattle.basis_report.proofs.ExplorationLemmas.{sections-known}
 
 -- a pair of the tree, as an implication
@@ -197,15 +197,15 @@ pub basis_section-basis : (attributes : List Text) (S : List Rule) (K : Context)
     → open_questions S K acc ≡ []
     → basis_section attributes acc [] ≡ basis_lines attributes (basis_known S K)
 basis_section-basis attributes S K acc h done =
-    ap₂ (λ n J. count_line (codes "# basis ") n ++ arrow_lines (codes "# ") attributes J) (accepted_length S K acc h done)
+    ap₂ (λ n J. count_line (codes "# basis ") n ++ implication_lines (codes "# ") attributes J) (accepted_length S K acc h done)
     (in_lectic_order-basis S K acc h done)
 
 -- a legal history that leaves no question open
 pub finished_basis : (t : NamedContext) (settings : Settings) (H : List SetEntry) → rows_respect settings.known t.context ≡ true
     → IsLegal (opening t.context t.objects settings) H
-    → open_in (state_of_text t settings H) ≡ []
-    → basis_section t.attributes (state_of_text t settings H).accepted [] ≡ basis_lines t.attributes
-    (basis_known settings.known (state_of_text t settings H).context)
+    → open_in (state_of_history t settings H) ≡ []
+    → basis_section t.attributes (state_of_history t settings H).accepted [] ≡ basis_lines t.attributes
+    (basis_known settings.known (state_of_history t settings H).context)
 finished_basis t settings H respect legal done =
     let start : State = opening t.context t.objects settings in
     let s : State = state_after start (events_of H) in
@@ -221,12 +221,12 @@ regrouped t r a o b = simp append_assoc
 -- its text ends with that basis
 pub finished_text : (t : NamedContext) (settings : Settings) (H : List SetEntry) → rows_respect settings.known t.context ≡ true
     → IsLegal (opening t.context t.objects settings) H
-    → open_in (state_of_text t settings H) ≡ []
+    → open_in (state_of_history t settings H) ≡ []
     → explore_text t settings H ≡ text_before_basis t settings H ++ basis_lines t.attributes
-    (basis_known settings.known (state_of_text t settings H).context)
+    (basis_known settings.known (state_of_history t settings H).context)
 unfolding explore_text
 finished_text t settings H respect legal done =
-    let s : State = state_of_text t settings H in
+    let s : State = state_of_history t settings H in
     let known : s.settings.known ≡ settings.known =
     ap (λ (g : Settings). g.known) (run_settings (opening t.context t.objects settings) (events_of H)) in
     let none : open_questions settings.known s.context s.accepted ≡ [] = ap (λ S. open_questions S s.context s.accepted) (sym known)

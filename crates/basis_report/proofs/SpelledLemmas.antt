@@ -9,21 +9,21 @@ use Rattle.fca_model.specs.Names.{is_line_break}
 use Rattle.fca_model.specs.Tables.{Text, NamedContext}
 use Rattle.fca_model.specs.Implications.{Rule}
 use Rattle.fca_model.specs.Exploration.{State, Settings, SetEvent, SetReply, SetEntry, IsLegal, opening, open_in, journal_of}
-use Rattle.fca_model.specs.Exploration.{expert_of, has_width, is_expert}
+use Rattle.fca_model.specs.Exploration.{expert_of, has_row_of_width, is_expert}
 use Rattle.fca_model.specs.declared.Event.TheVariants.{Row}
 use Rattle.fca_model.specs.declared.Reply.TheVariants.{Taken}
 use Rattle.expert_wire.specs.Texts.{line_end, ordinal, pattern, arrow_text, full_text}
 use Rattle.expert_wire.specs.Replies.{numbered_rule}
-use Rattle.expert_wire.specs.Words.{is_name}
+use Rattle.expert_wire.specs.Patterns.{is_name}
 use Rattle.expert_wire.proofs.ReadLemmas.{pattern_no_break}
 use Rattle.expert_wire.proofs.SkipLemmas.{Skips, Skips-nil, Skips-append, Skips-comment, Skips-flat_map, no_break-append}
 use Rattle.expert_wire.proofs.SkipLemmas.{no_break-decimal, no_break-name, no_break-arrow, no_break-full, no_break-rule}
 use Rattle.expert_scripts.specs.Scripts.{EachEventCanBeWritten, HasRowName, script_form}
 use Rattle.expert_scripts.specs.Transcripts.{AreNames, SettingsCanBeWritten, transcript}
 use Rattle.expert_scripts.proofs.TranscriptLemmas.{are_names, script_form-transcript}
-use Rattle.report_texts.specs.Reports.{count_line, arrow_line, arrow_lines}
+use Rattle.report_texts.specs.Reports.{count_line, implication_line, implication_lines}
 use Rattle.basis_report.specs.Explorations.{records_row, recorded_line, recorded_section, accepted_section, open_section, in_lectic_order}
-use Rattle.basis_report.specs.Explorations.{basis_section, sections, state_of_text, explore_text, content_or_plain, Spells, EachNamed}
+use Rattle.basis_report.specs.Explorations.{basis_section, sections, state_of_history, explore_text, content_or_plain, Spells, EachNamed}
 
 -- ---- each section is skipped
 
@@ -73,7 +73,7 @@ Skips-open_section attributes J h =
     (λ i. Skips-comment (full_text attributes i) (no_break-full attributes i h)))
 
 Skips-arrow : (attributes : List Text) (place : ℕ) (i : Rule) → list_all is_name attributes ≡ true
-    → Skips (arrow_line (codes "# ") attributes place i)
+    → Skips (implication_line (codes "# ") attributes place i)
 Skips-arrow attributes place i h =
     subst Skips (regroup (ordinal place) (arrow_text attributes i))
     (Skips-comment (ordinal place ++ (codes " " ++ arrow_text attributes i))
@@ -86,9 +86,9 @@ Skips-basis_section : (attributes : List Text) (acc J : List Rule) → list_all 
     → Skips (basis_section attributes acc J)
 Skips-basis_section attributes acc (q ∷ J) h = Skips-nil
 Skips-basis_section attributes acc [] h =
-    Skips-append (count_line (codes "# basis ") (length acc)) (arrow_lines (codes "# ") attributes (in_lectic_order acc))
+    Skips-append (count_line (codes "# basis ") (length acc)) (implication_lines (codes "# ") attributes (in_lectic_order acc))
     (Skips-count_line (codes "basis ") (length acc) refl)
-    (Skips-flat_map (λ x. arrow_line (codes "# ") attributes x.0 x.1) (enumerate_from 0 (in_lectic_order acc))
+    (Skips-flat_map (λ x. implication_line (codes "# ") attributes x.0 x.1) (enumerate_from 0 (in_lectic_order acc))
     (λ x. Skips-arrow attributes x.0 x.1 h))
 
 pub Skips-sections : (attributes : List Text) (H : List SetEntry) (s : State) → list_all is_name attributes ≡ true → EachNamed H
@@ -105,11 +105,11 @@ Skips-sections attributes H s names named =
 -- ---- the events are those of the history
 
 pub each_said : (n : ℕ) (H : List SetEntry) → list_all (λ entry. is_expert (expert_of entry.event)) H ≡ true
-    → list_all (λ entry. has_width n entry.event) H ≡ true → EachNamed H → EachEventCanBeWritten n H
+    → list_all (λ entry. has_row_of_width n entry.event) H ≡ true → EachNamed H → EachEventCanBeWritten n H
 each_said n [] experts widths named = tt
 each_said n (entry ∷ H) experts widths named =
     let e = and_parts (is_expert (expert_of entry.event)) (list_all (λ x. is_expert (expert_of x.event)) H) experts in
-    let w = and_parts (has_width n entry.event) (list_all (λ x. has_width n x.event) H) widths in
+    let w = and_parts (has_row_of_width n entry.event) (list_all (λ x. has_row_of_width n x.event) H) widths in
     (record { expert = e.0; wide = w.0; named = named.0 }, each_said n H e.1 w.1 named.1)
 
 -- ---- the whole
@@ -121,8 +121,8 @@ pub spelled-more : (t : NamedContext) (settings : Settings) (H : List SetEntry) 
 unfolding explore_text
 spelled-more t settings H more names can named legal skips =
     let n = t.context.width in
-    let found = sections t.attributes H (state_of_text t settings H) in
-    let behind = Skips-append found more (Skips-sections t.attributes H (state_of_text t settings H) (are_names t.attributes names) named)
+    let found = sections t.attributes H (state_of_history t settings H) in
+    let behind = Skips-append found more (Skips-sections t.attributes H (state_of_history t settings H) (are_names t.attributes names) named)
     skips in
     let said = ap (λ text. script_form text n) (append_assoc (transcript t.attributes settings H) found more)
     ∙ script_form-transcript n t.attributes settings H (found ++ more) names can (each_said n H legal.experts legal.widths named) behind in

@@ -45,18 +45,18 @@ dropped_rows_from e (o ∷ os) = dropped_rows_of e o.0 o.1 ++ dropped_rows_from 
 
 -- `E R PATTERN NAME I ` and the full text of the implication
 abbrev pub conflict_words : List Text → List Rule → DroppedRow → Text
-conflict_words attributes accepted d =
+conflict_words attributes rules d =
     ordinal d.oracle_place ++ (codes " " ++ (ordinal d.place ++ (codes " " ++ (pattern d.row ++ (codes " " ++ (d.name ++ (codes " "
-    ++ numbered_rule attributes d.broken (slice_index_or accepted d.broken (rule [] [])))))))))
+    ++ numbered_rule attributes d.broken (slice_index_or rules d.broken (rule [] [])))))))))
 
 -- the line of a dropped row
 abbrev pub conflict_line : List Text → List Rule → DroppedRow → Text
-conflict_line attributes accepted d = comment_line (conflict_words attributes accepted d)
+conflict_line attributes rules d = comment_line (conflict_words attributes rules d)
 
 -- the number of dropped rows, and a line for each
 abbrev pub conflicts_section : List Text → List Rule → List DroppedRow → Text
-conflicts_section attributes accepted ds = count_line (codes "# conflicts ") (length ds) ++ flat_map (conflict_line attributes accepted) ds
+conflicts_section attributes rules ds = count_line (codes "# conflicts ") (length ds) ++ flat_map (conflict_line attributes rules) ds
 
 -- the dropped rows of the oracles of all experts, by expert and then by place
 unfoldable pub conflicts_text : List Text → List Rule → List (NamedContext × Conflicts) → Text
-conflicts_text attributes accepted oracles = conflicts_section attributes accepted (dropped_rows_from 0 oracles)
+conflicts_text attributes rules oracles = conflicts_section attributes rules (dropped_rows_from 0 oracles)

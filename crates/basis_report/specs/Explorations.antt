@@ -15,7 +15,7 @@ use Rattle.expert_wire.specs.Replies.{numbered_rule}
 use Rattle.expert_scripts.specs.declared.fault.ScriptFault.{ScriptFault}
 use Rattle.expert_scripts.specs.Scripts.{ScriptContent, HasRowName, script_form}
 use Rattle.expert_scripts.specs.Transcripts.{transcript}
-use Rattle.report_texts.specs.Reports.{count_line, arrow_lines}
+use Rattle.report_texts.specs.Reports.{count_line, implication_lines}
 use Rattle.basis_report.specs.Comments.{comments}
 
 -- ---- the recorded rows
@@ -59,11 +59,11 @@ in_lectic_order J = map (λ entry. rule entry.0 entry.1) (conclusions_by_premise
 
 -- the number of members of the basis J, and a line for each
 abbrev pub basis_lines : List Text → List Rule → Text
-basis_lines attributes J = count_line (codes "# basis ") (length J) ++ arrow_lines (codes "# ") attributes J
+basis_lines attributes J = count_line (codes "# basis ") (length J) ++ implication_lines (codes "# ") attributes J
 
 -- the basis, if no question is open
 abbrev pub basis_section : List Text → List Rule → List Rule → Text
-basis_section attributes acc [] = count_line (codes "# basis ") (length acc) ++ arrow_lines (codes "# ") attributes (in_lectic_order acc)
+basis_section attributes acc [] = count_line (codes "# basis ") (length acc) ++ implication_lines (codes "# ") attributes (in_lectic_order acc)
 basis_section attributes acc (q ∷ J) = []
 
 -- the four sections after the transcript
@@ -73,18 +73,18 @@ sections attributes H s =
     ++ (open_section attributes (open_in s) ++ basis_section attributes s.accepted (open_in s)))
 
 -- the state after the events of a history of the table
-abbrev pub state_of_text : NamedContext → Settings → List SetEntry → State
-state_of_text t settings H = state_after (opening t.context t.objects settings) (events_of H)
+abbrev pub state_of_history : NamedContext → Settings → List SetEntry → State
+state_of_history t settings H = state_after (opening t.context t.objects settings) (events_of H)
 
 -- the text of a history of the table under these settings
 unfoldable pub explore_text : NamedContext → Settings → List SetEntry → Text
-explore_text t settings H = transcript t.attributes settings H ++ sections t.attributes H (state_of_text t settings H)
+explore_text t settings H = transcript t.attributes settings H ++ sections t.attributes H (state_of_history t settings H)
 
 -- the part of such a text before the basis, if no question is open
 abbrev pub text_before_basis : NamedContext → Settings → List SetEntry → Text
 text_before_basis t settings H =
     transcript t.attributes settings H
-    ++ (recorded_section H ++ (accepted_section t.attributes (length settings.known) (state_of_text t settings H).accepted
+    ++ (recorded_section H ++ (accepted_section t.attributes (length settings.known) (state_of_history t settings H).accepted
     ++ open_section t.attributes []))
 
 -- ---- its pieces

@@ -9,11 +9,11 @@ use Rattle.fca_model.specs.Tables.{Text, NamedContext}
 use Rattle.fca_model.specs.Implications.{Rule, rule, refutes}
 use Rattle.canonical_basis.specs.Derivations.{derivation}
 use Rattle.expert_wire.specs.Texts.{line_end, ordinal, pattern}
-use Rattle.report_texts.specs.Reports.{count_line, arrow_line}
+use Rattle.report_texts.specs.Reports.{count_line, implication_line}
 
 -- a step of a derivation: the number of the implication that it uses, and the arrow text
 abbrev pub step_line : List Text → List Rule → ℕ → Text
-step_line attributes J place = arrow_line [] attributes place (slice_index_or J place (rule [] []))
+step_line attributes J place = implication_line [] attributes place (slice_index_or J place (rule [] []))
 
 -- the implication holds by these steps
 abbrev pub derivation_text : List Text → List Rule → List ℕ → Text

@@ -15,7 +15,7 @@ use expert_scripts::write_transcript;
 use expert_wire::{Draft, Part};
 use explore_state::{Entry, Event, Explore, Implication, Question, Reply};
 use fca_model::Memory;
-use report_texts::{write_arrows, write_count_line};
+use report_texts::{write_count_line, write_implications};
 use std::alloc::Global;
 use std::collections::BTreeMap;
 
@@ -153,7 +153,7 @@ pub(crate) fn write_basis(
     }
     write_count_line(draft, b"# basis ", accepted.len())?;
     let ordered = in_lectic_order(alloc, accepted)?;
-    write_arrows(draft, table, b"# ", &ordered)
+    write_implications(draft, table, b"# ", &ordered)
 }
 
 /// The implications in the lectic order of their premises.

@@ -4,7 +4,7 @@ ghost use Rattle.std.specs.Prelude.{◌≡◌, ◌++◌, ℕ, [], List, true, fa
 ghost use Rattle.std.specs.List.{list_all};
 ghost use Rattle.fca_model.specs.Tables.{Text, NamedContext};
 ghost use Rattle.fca_model.specs.Exploration.{Settings, SetEntry, IsLegal, opening, open_in};
-ghost use Rattle.expert_wire.specs.Words.{is_name};
+ghost use Rattle.expert_wire.specs.Patterns.{is_name};
 ghost use Rattle.expert_scripts.specs.Transcripts.{AreNames, SettingsCanBeWritten};
 ghost use Rattle.fca_model.specs.Pseudo.{basis, basis_known};
 ghost use Rattle.fca_model.specs.Invariant.{rows_respect};
@@ -16,7 +16,7 @@ ghost use Rattle.oracle_expert.specs.Oracles.{Conflicts};
 ghost use Rattle.basis_report.specs.Conflicts.{conflicts_text};
 ghost use Rattle.basis_report.specs.Sessions.{sessions_text};
 ghost use Rattle.basis_report.specs.Verdicts.{first_refuting, derivation_text, refutation_text, follows_text};
-ghost use Rattle.basis_report.specs.Explorations.{EachNamed, explore_text, Spells, SpellsBefore, state_of_text, basis_lines};
+ghost use Rattle.basis_report.specs.Explorations.{EachNamed, explore_text, Spells, SpellsBefore, state_of_history, basis_lines};
 ghost use Rattle.basis_report.specs.Explorations.{basis_section, text_before_basis};
 
 /// The text of an exploration spells its settings and its history.
@@ -31,11 +31,11 @@ pub fn comments_change_nothing()
     ensures any { (t : NamedContext) (settings : Settings) (H : List SetEntry) (lines : List Text) → AreNames t.attributes
         → SettingsCanBeWritten t.context.width settings → EachNamed H
         → IsLegal (opening t.context t.objects settings) H → are_lines lines ≡ true → SpellsBefore t settings H lines }
-    ensures conflicts { (t : NamedContext) (settings : Settings) (H : List SetEntry) (accepted : List Rule)
+    ensures conflicts { (t : NamedContext) (settings : Settings) (H : List SetEntry) (rules : List Rule)
         (oracles : List (NamedContext × Conflicts)) → AreNames t.attributes → SettingsCanBeWritten t.context.width settings → EachNamed H
         → IsLegal (opening t.context t.objects settings) H
         → list_all (λ o. list_all is_name o.0.objects) oracles ≡ true
-        → Spells t settings H (explore_text t settings H ++ conflicts_text t.attributes accepted oracles) }
+        → Spells t settings H (explore_text t settings H ++ conflicts_text t.attributes rules oracles) }
     ensures sessions { (t : NamedContext) (settings : Settings) (H : List SetEntry) (endings : List Text) → AreNames t.attributes
         → SettingsCanBeWritten t.context.width settings → EachNamed H
         → IsLegal (opening t.context t.objects settings) H → are_lines endings ≡ true
@@ -46,12 +46,12 @@ pub fn comments_change_nothing()
 pub fn finished_ends_with_basis()
     ensures section { (t : NamedContext) (settings : Settings) (H : List SetEntry) → rows_respect settings.known t.context ≡ true
         → IsLegal (opening t.context t.objects settings) H
-        → open_in (state_of_text t settings H) ≡ [] → basis_section t.attributes (state_of_text t settings H).accepted []
-        ≡ basis_lines t.attributes (basis_known settings.known (state_of_text t settings H).context) }
+        → open_in (state_of_history t settings H) ≡ [] → basis_section t.attributes (state_of_history t settings H).accepted []
+        ≡ basis_lines t.attributes (basis_known settings.known (state_of_history t settings H).context) }
     ensures text { (t : NamedContext) (settings : Settings) (H : List SetEntry) → rows_respect settings.known t.context ≡ true
         → IsLegal (opening t.context t.objects settings) H
-        → open_in (state_of_text t settings H) ≡ [] → explore_text t settings H
-        ≡ text_before_basis t settings H ++ basis_lines t.attributes (basis_known settings.known (state_of_text t settings H).context) }
+        → open_in (state_of_history t settings H) ≡ [] → explore_text t settings H
+        ≡ text_before_basis t settings H ++ basis_lines t.attributes (basis_known settings.known (state_of_history t settings H).context) }
 {}
 
 /// The verdict on an implication is right. If the implication holds, the verdict is a sound derivation from the basis. Else it is the

@@ -2,7 +2,7 @@
 
 ghost use Rattle.std.specs.Prelude.{◌≡◌, true};
 ghost use Rattle.std.specs.List.{list_all};
-ghost use Rattle.expert_wire.specs.Words.{is_name};
+ghost use Rattle.expert_wire.specs.Patterns.{is_name};
 ghost use Rattle.expert_scripts.specs.Scripts.{HasRowName};
 ghost use Rattle.expert_scripts.specs.Transcripts.{AreNames};
 ghost use Rattle.basis_report.specs.Explorations.{EachNamed};

@@ -13,7 +13,7 @@ use context_table::Table;
 use expert_wire::{Draft, Part};
 use fca_model::Memory;
 use implication_closure::{Implication, ImplicationList};
-use report_texts::{object_text, write_arrow, write_count_line};
+use report_texts::{object_text, write_count_line, write_implication};
 use std::alloc::Global;
 use std::thread::Threads;
 
@@ -94,7 +94,7 @@ fn write_derivation(
     draft.append_parts(table, &[Part::Bytes(b"holds\n")])?;
     write_count_line(draft, b"steps ", steps.len())?;
     for step in steps {
-        write_arrow(draft, table, b"", *step, &members[*step])?;
+        write_implication(draft, table, b"", *step, &members[*step])?;
     }
     Ok(())
 }

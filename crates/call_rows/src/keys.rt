@@ -12,12 +12,12 @@ pub enum LineKey {
     Client,
     ClientLine,
     Fails,
-    Number(Number),
+    Number(NumberKey),
 }
 
 /// What a line sets to a number.
 #[derive(Clone, Copy)]
-pub enum Number {
+pub enum NumberKey {
     Input,
     Out,
     First,
@@ -26,7 +26,7 @@ pub enum Number {
 
 /// What has calls that may fail.
 #[derive(Clone, Copy)]
-pub enum End {
+pub enum FailingCall {
     Shelf,
     Input,
     Out,
@@ -49,20 +49,20 @@ const KEYS: [(&[u8], LineKey); 16] = [
     (b"C", LineKey::ClientLine),
     (b"c", LineKey::ClientLine),
     (b"fails", LineKey::Fails),
-    (b"input", LineKey::Number(Number::Input)),
-    (b"out", LineKey::Number(Number::Out)),
-    (b"first", LineKey::Number(Number::First)),
-    (b"last", LineKey::Number(Number::Last)),
+    (b"input", LineKey::Number(NumberKey::Input)),
+    (b"out", LineKey::Number(NumberKey::Out)),
+    (b"first", LineKey::Number(NumberKey::First)),
+    (b"last", LineKey::Number(NumberKey::Last)),
 ];
 
-const ENDS: [(&[u8], End); 7] = [
-    (b"shelf", End::Shelf),
-    (b"input", End::Input),
-    (b"out", End::Out),
-    (b"err", End::Err),
-    (b"link", End::Link),
-    (b"read", End::Read),
-    (b"write", End::Write),
+const FAILING_CALLS: [(&[u8], FailingCall); 7] = [
+    (b"shelf", FailingCall::Shelf),
+    (b"input", FailingCall::Input),
+    (b"out", FailingCall::Out),
+    (b"err", FailingCall::Err),
+    (b"link", FailingCall::Link),
+    (b"read", FailingCall::Read),
+    (b"write", FailingCall::Write),
 ];
 
 /// What a line that begins with the word says, if anything.
@@ -71,8 +71,8 @@ pub fn key_of(word: &[u8]) -> Option<LineKey> {
     Some(*key)
 }
 
-/// The end that the word names, if any.
-pub fn end_of(word: &[u8]) -> Option<End> {
-    let (_, end) = ENDS.iter().find(|(text, _)| *text == word)?;
-    Some(*end)
+/// The calls that the word names, if any.
+pub fn failing_call_of(word: &[u8]) -> Option<FailingCall> {
+    let (_, calls) = FAILING_CALLS.iter().find(|(text, _)| *text == word)?;
+    Some(*calls)
 }

@@ -1,8 +1,8 @@
-//! A call with the ends that it goes over, as lines describe it.
+//! A call and what it goes over, as lines describe it.
 
 ghost use Rattle.std.specs.Prelude.{◌≡◌, false, IfOk};
 
-use crate::keys::{End, LineKey, Number, end_of, key_of};
+use crate::keys::{FailingCall, LineKey, NumberKey, failing_call_of, key_of};
 use fca_io::{MemoryEnd, MemoryLink, MemoryShelf, MemorySink, MemorySource};
 use fca_model::{Memory, Word};
 use std::alloc::Global;
@@ -25,9 +25,9 @@ struct Client {
     write_fails: Vec<usize>,
 }
 
-/// The ends of a call but its link.
+/// What a call goes over, but its link.
 #[derive(Drop)]
-pub struct Ends {
+pub struct Environment {
     pub shelf: MemoryShelf,
     pub input: MemorySource,
     pub out: MemorySink,
@@ -71,7 +71,7 @@ impl Row {
             link_fails: Vec::new(alloc),
             input_most: 7,
             out_most: 10,
-            first_lines: ROOM,
+            first_lines: usize::MAX,
             last_lines: 0,
         }
     }
@@ -169,14 +169,14 @@ impl Row {
     fn push_failing(&mut self, text: &[u8]) -> Result<(), Memory> {
         let (word, digits) = split_word(text);
         let number = number_of(digits);
-        match end_of(word) {
-            Some(End::Shelf) => self.shelf_fails.push(number)?,
-            Some(End::Input) => self.input_fails.push(number)?,
-            Some(End::Out) => self.out_fails.push(number)?,
-            Some(End::Err) => self.err_fails.push(number)?,
-            Some(End::Link) => self.link_fails.push(number)?,
-            Some(End::Read) => self.push_failing_read(number)?,
-            Some(End::Write) => self.push_failing_write(number)?,
+        match failing_call_of(word) {
+            Some(FailingCall::Shelf) => self.shelf_fails.push(number)?,
+            Some(FailingCall::Input) => self.input_fails.push(number)?,
+            Some(FailingCall::Out) => self.out_fails.push(number)?,
+            Some(FailingCall::Err) => self.err_fails.push(number)?,
+            Some(FailingCall::Link) => self.link_fails.push(number)?,
+            Some(FailingCall::Read) => self.push_failing_read(number)?,
+            Some(FailingCall::Write) => self.push_failing_write(number)?,
             None => {}
         }
         Ok(())
@@ -196,18 +196,18 @@ impl Row {
         }
     }
 
-    fn set_number(&mut self, key: Number, number: usize) {
+    fn set_number(&mut self, key: NumberKey, number: usize) {
         match key {
-            Number::Input => self.input_most = number,
-            Number::Out => self.out_most = number,
-            Number::First => self.first_lines = number,
-            Number::Last => self.last_lines = number,
+            NumberKey::Input => self.input_most = number,
+            NumberKey::Out => self.out_most = number,
+            NumberKey::First => self.first_lines = number,
+            NumberKey::Last => self.last_lines = number,
         }
     }
 
-    /// Its ends but the link.
-    pub fn ends(&self, alloc: Global) -> Result<Ends, Memory> {
-        Ok(Ends {
+    /// What it goes over, but the link.
+    pub fn environment(&self, alloc: Global) -> Result<Environment, Memory> {
+        Ok(Environment {
             shelf: self.shelf(alloc)?,
             input: MemorySource::new(
                 alloc,

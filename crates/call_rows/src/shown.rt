@@ -2,7 +2,7 @@
 
 ghost use Rattle.std.specs.Prelude.{◌≡◌, false};
 
-use crate::row::{Ends, Row};
+use crate::row::{Environment, Row};
 use fca_io::{Listener, MemoryEnd, MemoryLink, Shelf, Sink, Source};
 use fca_model::{Memory, Word};
 use fca_run::run;
@@ -10,11 +10,11 @@ use std::alloc::Global;
 use std::sync::Wait;
 use std::thread::Threads;
 
-/// What a call left: its status, and its ends.
+/// What a call left: its status, and what it went over.
 #[derive(Drop)]
 struct Called {
     status: u8,
-    ends: Ends,
+    environment: Environment,
     link: MemoryLink,
 }
 
@@ -30,40 +30,44 @@ pub fn show<R: Threads + Wait + Sync>(
     }
     let called = outcome(rt, alloc, row)?;
     show_head(alloc, text, &row.title, called.status)?;
-    let out = called.ends.out.written();
+    let out = called.environment.out.written();
     show_lines(text, b'o', out, row.first_lines, row.last_lines)?;
-    show_lines(text, b'e', called.ends.err.written(), usize::MAX, 0)?;
+    show_lines(text, b'e', called.environment.err.written(), usize::MAX, 0)?;
     show_clients(text, called.link.given())
 }
 
 /// Runs the call of the row.
 fn outcome<R: Threads + Wait + Sync>(rt: &R, alloc: Global, row: &Row) -> Result<Called, Memory> {
-    let mut ends = row.ends(alloc)?;
+    let mut environment = row.environment(alloc)?;
     let mut link = row.link(alloc)?;
-    let status = status_over(rt, alloc, &row.words, &mut ends, &mut link);
-    Ok(Called { status, ends, link })
+    let status = status_over(rt, alloc, &row.words, &mut environment, &mut link);
+    Ok(Called {
+        status,
+        environment,
+        link,
+    })
 }
 
-/// The status of the call of these words over these ends.
+/// The status of the call of these words over this environment.
 fn status_over<R: Threads + Wait + Sync, L: Listener>(
     rt: &R,
     alloc: Global,
     words: &[Word],
-    ends: &mut Ends,
+    environment: &mut Environment,
     link: &mut L,
 ) -> u8
     requires { L.listens link.old ≡ false }
 {
-    let Ends {
+    let Environment {
         shelf,
         input,
         out,
         err,
-    } = ends;
+    } = environment;
     status_of(rt, alloc, words, shelf, input, out, err, link)
 }
 
-/// The status of the call of these words over these ends.
+/// The status of the call of these words over this environment.
 fn status_of<R: Threads + Wait + Sync, H: Shelf, S: Source, K: Sink, E: Sink, L: Listener>(
     rt: &R,
     alloc: Global,

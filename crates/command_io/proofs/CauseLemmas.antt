@@ -12,7 +12,7 @@ use Rattle.command_io.specs.Endings.{IsRefusal}
 use Rattle.command_io.specs.declared.stop.Origin.{Origin}
 use Rattle.command_io.specs.declared.stop.Origin.TheVariants.{Known}
 use Rattle.command_io.specs.declared.stop.Stop.{Stop}
-use Rattle.command_io.specs.declared.stop.Stop.TheVariants.{TooLong, NoCxt, NoCsv, BadValues, BadPlan, NoKnown, Fault, Memory}
+use Rattle.command_io.specs.declared.stop.Stop.TheVariants.{TooLong, NoCxt, NoCsv, BadValues, BadPlan, NoKnown, ReadFault, Memory}
 
 -- a file that is too long is refused
 exceeding-refused : {X : Type 0} (form : Text → Reading X) (told : Told) → MayExceed told FILE_BYTES → MayRefuse (file_read form told)
@@ -23,7 +23,7 @@ exceeding-refused form (Some (Some bytes)) more = rw (lt-leb (length bytes) FILE
 pub fetch-refused : {X : Type 0} (form : Text → Reading X) (told : Told) (rose : Type 0) (origin : Origin) (s : Stop)
     → IsFetchStop told rose origin s → IsRefusal s → MayRefuse (file_read form told)
 fetch-refused form told rose origin (TooLong at) is refusal = exceeding-refused form told is.1
-fetch-refused form told rose origin (Fault at) is refusal = absurd refusal
+fetch-refused form told rose origin (ReadFault at) is refusal = absurd refusal
 fetch-refused form told rose origin Memory is refusal = absurd refusal
 fetch-refused form told rose origin _ is refusal = absurd is
 

@@ -3,7 +3,7 @@ use Rattle.std.proofs.Common.{◌≡◌, ◌<◌, ◌++◌, ℕ, suc, List, leng
 use Rattle.std.proofs.Math.Seq.{drop-cons}
 use Rattle.std.specs.List.{flat_map}
 use Rattle.std.specs.Prelude.{IfErr, IsErrAnd}
-use Rattle.fca_io.specs.Faults.{Asked}
+use Rattle.fca_io.specs.Faults.{ReadCounts}
 use Rattle.fca_io.specs.declared.outside.Put.{Put}
 use Rattle.fca_model.specs.Tables.{Text}
 use Rattle.expert_wire.specs.Parts.{Writes}
@@ -14,7 +14,7 @@ pub flat_map-drop_or : {X : Type 0} (f : X → Text) (xs : List X) (i : ℕ) (ot
     → flat_map f (drop i xs) ≡ f (get_or xs i other) ++ flat_map f (drop (suc i) xs)
 flat_map-drop_or f xs i other h = ap (flat_map f) (drop-cons xs i other h)
 
-pub writes-gain : {E : Type 0} (old new : Moment E) {o o' : Option Text} {a a' : Asked} {line : Text} (r : Result (Unit {0}) Put)
+pub writes-gain : {E : Type 0} (old new : Moment E) {o o' : Option Text} {a a' : ReadCounts} {line : Text} (r : Result (Unit {0}) Put)
     → Writes old.bytes new.bytes old.faults new.faults o o' a a' line r → GainsLine (Some line) old new
 writes-gain old new (Ok done) w = inl (w.whole, w.quiet)
 writes-gain old new (Err fault) w = inr (w.front, w.failed)

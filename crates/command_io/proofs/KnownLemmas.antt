@@ -11,7 +11,7 @@ use Rattle.command_io.specs.Forms.{table_read}
 use Rattle.command_io.specs.Known.{unbroken, if_respected, known_file_read, known_read, Start, start_read, IsImplicationsStop, IsKnownFileStop}
 use Rattle.command_io.specs.Known.{IsKnownStop}
 use Rattle.command_io.specs.declared.stop.Stop.{Stop}
-use Rattle.command_io.specs.declared.stop.Stop.TheVariants.{Fault}
+use Rattle.command_io.specs.declared.stop.Stop.TheVariants.{ReadFault}
 use Rattle.command_io.proofs.ReadingLemmas.{refused_then, refused_after, read_after}
 
 -- ---- rows that break nothing
@@ -44,7 +44,7 @@ Rises-before counts between after file later rose =
 
 IsImplicationsStop-more : (n : ℕ) (told : Told) (rose rose' : Type 0) (s : Stop) → (rose → rose') → IsImplicationsStop n told rose s
     → IsImplicationsStop n told rose' s
-IsImplicationsStop-more n told rose rose' (Fault at) more is = (is.0, more is.1)
+IsImplicationsStop-more n told rose rose' (ReadFault at) more is = (is.0, more is.1)
 IsImplicationsStop-more n told rose rose' _ more is = is
 
 IsKnownFileStop-more : (table : NamedContext) (told : Told) (rose rose' : Type 0) (s : Stop) → (rose → rose')

@@ -16,12 +16,12 @@ use Rattle.command_io.specs.Forms.{is_csv}
 use Rattle.command_io.specs.declared.stop.Origin.{Origin}
 use Rattle.command_io.specs.declared.stop.Origin.TheVariants.{Input}
 use Rattle.command_io.specs.declared.stop.Stop.{Stop}
-use Rattle.command_io.specs.declared.stop.Stop.TheVariants.{TooLong, NoCxt, NoCsv, BadValues, BadPlan, NoScript, Fault, Listener, Memory}
+use Rattle.command_io.specs.declared.stop.Stop.TheVariants.{TooLong, NoCxt, NoCsv, BadValues, BadPlan, NoScript, ReadFault, Listener, Memory}
 
 -- P holds unless a file or the input could not be read
-abbrev pub UnlessFault : {X : Type 0} → Result X Stop → Type 0 → Type 0
-UnlessFault (Err (Fault origin)) P = ⊤
-UnlessFault _ P = P
+abbrev pub UnlessReadFault : {X : Type 0} → Result X Stop → Type 0 → Type 0
+UnlessReadFault (Err (ReadFault origin)) P = ⊤
+UnlessReadFault _ P = P
 
 -- P holds unless the listener failed
 abbrev pub UnlessListener : {X : Type 0} → Result X Stop → Type 0 → Type 0
@@ -30,7 +30,7 @@ UnlessListener _ P = P
 
 -- the stop for bytes of this origin that could not be read
 abbrev pub taken_stop : Taken → Origin → Stop
-taken_stop taken.Failed origin = Fault origin
+taken_stop taken.Failed origin = ReadFault origin
 taken_stop taken.Long origin = TooLong origin
 taken_stop taken.Memory origin = Memory
 
@@ -49,7 +49,7 @@ IfHeld (Some (Some bytes)) P = (length bytes ≤ FILE_BYTES) × P bytes
 
 -- the stop for a file that was not fetched: it could not be read, and a count of faults rose; it is too long; or memory ran out
 abbrev pub IsFetchStop : Told → Type 0 → Origin → Stop → Type 0
-IsFetchStop told rose origin (Fault at) = (at ≡ origin) × rose
+IsFetchStop told rose origin (ReadFault at) = (at ≡ origin) × rose
 IsFetchStop told rose origin (TooLong at) = (at ≡ origin) × MayExceed told FILE_BYTES
 IsFetchStop told rose origin Memory = ⊤
 IsFetchStop told rose origin _ = ⊥
@@ -57,7 +57,7 @@ IsFetchStop told rose origin _ = ⊥
 -- The stop for the file of this name: it could not be read, and a count of faults rose; it is too long; or it is not too long, and its
 -- bytes do not have its form
 abbrev pub IsFileStop : Text → Told → Type 0 → Origin → Stop → Type 0
-IsFileStop name told rose origin (Fault at) = (at ≡ origin) × rose
+IsFileStop name told rose origin (ReadFault at) = (at ≡ origin) × rose
 IsFileStop name told rose origin (TooLong at) = (at ≡ origin) × MayExceed told FILE_BYTES
 IsFileStop name told rose origin (NoCxt at fault) = (at ≡ origin) × (is_csv name ≡ false)
     × IfHeld told (λ bytes. cxt_form bytes ≡ Err fault)
@@ -67,7 +67,7 @@ IsFileStop name told rose origin _ = ⊥
 
 -- the stop for a file of values
 abbrev pub IsValuesStop : Told → Type 0 → Origin → Stop → Type 0
-IsValuesStop told rose origin (Fault at) = (at ≡ origin) × rose
+IsValuesStop told rose origin (ReadFault at) = (at ≡ origin) × rose
 IsValuesStop told rose origin (TooLong at) = (at ≡ origin) × MayExceed told FILE_BYTES
 IsValuesStop told rose origin (BadValues at fault) = (at ≡ origin) × IfHeld told (λ bytes. values_form bytes ≡ Err fault)
 IsValuesStop told rose origin Memory = ⊤
@@ -75,7 +75,7 @@ IsValuesStop told rose origin _ = ⊥
 
 -- the stop for a file with a plan for the table of values
 abbrev pub IsPlanStop : ValueTable → Told → Type 0 → Origin → Stop → Type 0
-IsPlanStop t told rose origin (Fault at) = (at ≡ origin) × rose
+IsPlanStop t told rose origin (ReadFault at) = (at ≡ origin) × rose
 IsPlanStop t told rose origin (TooLong at) = (at ≡ origin) × MayExceed told FILE_BYTES
 IsPlanStop t told rose origin (BadPlan at fault) = (at ≡ origin) × IfHeld told (λ bytes. plan_form t bytes ≡ Err fault)
 IsPlanStop t told rose origin Memory = ⊤
@@ -93,7 +93,7 @@ IfLeft (Some bytes) P = (length bytes ≤ FILE_BYTES) × P bytes
 
 -- the stop for a script on this input, of a table of width n
 abbrev pub IsScriptStop : ℕ → Option Text → Type 0 → Stop → Type 0
-IsScriptStop n input rose (Fault at) = (at ≡ Input) × rose
+IsScriptStop n input rose (ReadFault at) = (at ≡ Input) × rose
 IsScriptStop n input rose (TooLong at) = (at ≡ Input) × MayBeLonger input FILE_BYTES
 IsScriptStop n input rose (NoScript fault) = IfLeft input (λ bytes. script_form bytes n ≡ Err fault)
 IsScriptStop n input rose Memory = ⊤

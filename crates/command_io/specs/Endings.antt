@@ -10,7 +10,7 @@ use Rattle.command_io.specs.declared.stop.Origin.{Origin}
 use Rattle.command_io.specs.declared.stop.Origin.TheVariants.{Input}
 use Rattle.command_io.specs.declared.stop.Stop.{Stop}
 use Rattle.command_io.specs.declared.stop.Stop.TheVariants.{NoCommand, TooLong, NoCxt, NoCsv, BadValues, BadPlan, NoKnown}
-use Rattle.command_io.specs.declared.stop.Stop.TheVariants.{RowBreaks, NoScript, UnknownAttribute, OtherAttributes, Fault, Listener, Memory}
+use Rattle.command_io.specs.declared.stop.Stop.TheVariants.{RowBreaks, NoScript, UnknownAttribute, OtherAttributes, ReadFault, Listener, Memory}
 
 -- ---- what a command comes to
 
@@ -31,7 +31,7 @@ ending_of (question ∷ later) = Open
 -- the stop refuses something that was read
 abbrev pub IsRefusal : Stop → Type 0
 IsRefusal NoCommand = ⊥
-IsRefusal (Fault origin) = ⊥
+IsRefusal (ReadFault origin) = ⊥
 IsRefusal Listener = ⊥
 IsRefusal Memory = ⊥
 IsRefusal _ = ⊤
@@ -58,7 +58,7 @@ IsOfFile (BadPlan origin fault) = IsFile origin
 IsOfFile (NoKnown fault) = ⊤
 IsOfFile (RowBreaks origin row rule) = IsFile origin
 IsOfFile (OtherAttributes origin) = IsFile origin
-IsOfFile (Fault origin) = IsFile origin
+IsOfFile (ReadFault origin) = IsFile origin
 IsOfFile _ = ⊥
 
 -- ---- what a call did
@@ -111,7 +111,7 @@ stop_status (RowBreaks origin row rule) = 2
 stop_status (NoScript fault) = 2
 stop_status UnknownAttribute = 2
 stop_status (OtherAttributes origin) = 2
-stop_status (Fault origin) = 3
+stop_status (ReadFault origin) = 3
 stop_status Memory = 5
 stop_status Listener = 7
 

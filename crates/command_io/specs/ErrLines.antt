@@ -26,7 +26,7 @@ use Rattle.command_io.specs.declared.stop.Origin.{Origin}
 use Rattle.command_io.specs.declared.stop.Origin.TheVariants.{File, Known, Later, Input}
 use Rattle.command_io.specs.declared.stop.Stop.{Stop}
 use Rattle.command_io.specs.declared.stop.Stop.TheVariants.{NoCommand, TooLong, NoCxt, NoCsv, BadValues, BadPlan, NoKnown}
-use Rattle.command_io.specs.declared.stop.Stop.TheVariants.{RowBreaks, NoScript, UnknownAttribute, OtherAttributes, Fault, Listener, Memory}
+use Rattle.command_io.specs.declared.stop.Stop.TheVariants.{RowBreaks, NoScript, UnknownAttribute, OtherAttributes, ReadFault, Listener, Memory}
 
 -- ---- the form of a line
 
@@ -68,7 +68,7 @@ stop_line file (RowBreaks origin row rule) = breaks_line (name_of file origin) r
 stop_line file (NoScript fault) = placed_line INPUT.now (script.description fault)
 stop_line file UnknownAttribute = plain_line UNKNOWN_ATTRIBUTE.now
 stop_line file (OtherAttributes origin) = placed_line (name_of file origin) (Whole, ATTRIBUTES_DIFFER.now)
-stop_line file (Fault origin) = placed_line (name_of file origin) (Whole, READ_FAULT.now)
+stop_line file (ReadFault origin) = placed_line (name_of file origin) (Whole, READ_FAULT.now)
 stop_line file Listener = plain_line LISTENER_FAULT.now
 stop_line file Memory = plain_line NO_MEMORY.now
 
@@ -90,7 +90,7 @@ stop_origin (BadPlan origin fault) = origin
 stop_origin (NoKnown fault) = Known
 stop_origin (RowBreaks origin row rule) = origin
 stop_origin (OtherAttributes origin) = origin
-stop_origin (Fault origin) = origin
+stop_origin (ReadFault origin) = origin
 stop_origin _ = File
 
 -- the name of the file of this origin, of the first file, the known file and the later ones

@@ -7,7 +7,7 @@ use Rattle.cxt_format.specs.Form.{cxt_form}
 use Rattle.csv_context.specs.Form.{csv_form}
 use Rattle.value_tables.specs.Values.{ValueTable}
 use Rattle.value_tables.specs.Form.{values_form}
-use Rattle.context_scaling.specs.Scaling.{Scaling}
+use Rattle.context_scaling.specs.Scaling.{PlanRecord}
 use Rattle.context_scaling.specs.PlanForm.{plan_form}
 use Rattle.expert_scripts.specs.Scripts.{ScriptContent, script_form}
 use Rattle.command_io.specs.Readings.{Reading, formed, file_read, input_read}
@@ -29,7 +29,7 @@ abbrev pub values_read : Told → Reading ValueTable
 values_read told = file_read (λ bytes. formed (values_form bytes)) told
 
 -- the plan for the table of values in such a file
-abbrev pub plan_read : ValueTable → Told → Reading (List Scaling)
+abbrev pub plan_read : ValueTable → Told → Reading (List PlanRecord)
 plan_read t told = file_read (λ bytes. formed (plan_form t bytes)) told
 
 -- what the script on the input says, whose rows and patterns have width n

@@ -16,7 +16,7 @@ use Rattle.command_io.specs.declared.known.Start as read
 use Rattle.command_io.specs.declared.stop.Origin.{Origin}
 use Rattle.command_io.specs.declared.stop.Origin.TheVariants.{File, Known}
 use Rattle.command_io.specs.declared.stop.Stop.{Stop}
-use Rattle.command_io.specs.declared.stop.Stop.TheVariants.{TooLong, NoKnown, RowBreaks, Fault, Memory}
+use Rattle.command_io.specs.declared.stop.Stop.TheVariants.{TooLong, NoKnown, RowBreaks, ReadFault, Memory}
 
 -- ---- what is read
 
@@ -39,8 +39,8 @@ known_file_read table told = then (implications_read table.context.width told) (
 
 -- what is known of the table: the implications of the known file, or none without a known file
 abbrev pub known_read : Option Text → NamedContext → (Text → Told) → Reading (List Rule)
-known_read None table files = Read []
-known_read (Some file) table files = known_file_read table (files file)
+known_read None table tells = Read []
+known_read (Some file) table tells = known_file_read table (tells file)
 
 -- what an exploration starts from: a table, and what is known of it
 pub record Start : Type 0 where
@@ -53,9 +53,9 @@ start_of s = record { table = s.table; known = s.known.members }
 
 -- the table in a file, and what is known of it
 abbrev pub start_read : Text → Option Text → (Text → Told) → Reading Start
-start_read file known files =
-    then (table_read file (files file)) (λ table.
-    then (known_read known table files) (λ S.
+start_read file known tells =
+    then (table_read file (tells file)) (λ table.
+    then (known_read known table tells) (λ S.
     Read (record { table = table; known = S })))
 
 -- ---- why it is not
@@ -67,7 +67,7 @@ IsBreakStop S table origin stop =
 
 -- the stop for a file of implications between sets of width n: it could not be read, it is too long, or its bytes do not have the form
 abbrev pub IsImplicationsStop : ℕ → Told → Type 0 → Stop → Type 0
-IsImplicationsStop n told rose (Fault at) = (at ≡ Known) × rose
+IsImplicationsStop n told rose (ReadFault at) = (at ≡ Known) × rose
 IsImplicationsStop n told rose (TooLong at) = (at ≡ Known) × MayExceed told FILE_BYTES
 IsImplicationsStop n told rose (NoKnown fault) = IfHeld told (λ bytes. known_form bytes n ≡ Err fault)
 IsImplicationsStop n told rose Memory = ⊤
@@ -80,10 +80,10 @@ IsKnownFileStop table told rose stop = IsImplicationsStop table.context.width to
 
 -- the stop for the known file, if there is one
 abbrev pub IsKnownStop : Option Text → NamedContext → (Text → Told) → (Text → Type 0) → Stop → Type 0
-IsKnownStop None table files rises stop = stop ≡ Memory
-IsKnownStop (Some file) table files rises stop = IsKnownFileStop table (files file) (rises file) stop
+IsKnownStop None table tells rises stop = stop ≡ Memory
+IsKnownStop (Some file) table tells rises stop = IsKnownFileStop table (tells file) (rises file) stop
 
 -- the stop for the table in the file, or, if that was read, for the known file
 abbrev pub IsStartStop : Text → Option Text → (Text → Told) → (Text → Type 0) → Stop → Type 0
-IsStartStop file known files rises stop = IsFileStop file (files file) (rises file) File stop
-    ⊎ ((table : NamedContext) × MayRead (table_read file (files file)) table × IsKnownStop known table files rises stop)
+IsStartStop file known tells rises stop = IsFileStop file (tells file) (rises file) File stop
+    ⊎ ((table : NamedContext) × MayRead (table_read file (tells file)) table × IsKnownStop known table tells rises stop)

@@ -44,7 +44,7 @@ pub(crate) fn explain_in_words<E: Sink>(err: &mut E, words: &str)
 }
 
 fn write_stop<E: Sink>(err: &mut E, file: &[u8], stop: &Stop) -> Result<(), Put>
-    ensures { WritesTo E.held E.faults E.beside E.asked_beside err.old err.new (stop_line file.now stop.now) result }
+    ensures { WritesTo E.held E.faults E.beside E.read_counts_beside err.old err.new (stop_line file.now stop.now) result }
 {
     match stop {
         Stop::NoCommand => write_plain(err, NO_SUCH_COMMAND),
@@ -75,7 +75,7 @@ fn write_stop<E: Sink>(err: &mut E, file: &[u8], stop: &Stop) -> Result<(), Put>
             name_of(file, *origin),
             ATTRIBUTES_DIFFER,
         ),
-        Stop::Fault(origin) => write_whole(err, name_of(file, *origin), READ_FAULT),
+        Stop::ReadFault(origin) => write_whole(err, name_of(file, *origin), READ_FAULT),
         Stop::Listener => write_plain(err, LISTENER_FAULT),
         Stop::Memory => write_plain(err, NO_MEMORY),
     }
@@ -93,21 +93,21 @@ fn name_of(file: &[u8], origin: Origin) -> &[u8]
 
 /// Writes a line of these words alone.
 fn write_plain<E: Sink>(err: &mut E, words: &str) -> Result<(), Put>
-    ensures { WritesTo E.held E.faults E.beside E.asked_beside err.old err.new (plain_line words.now) result }
+    ensures { WritesTo E.held E.faults E.beside E.read_counts_beside err.old err.new (plain_line words.now) result }
 {
     write_all_bytes(err, &[b"fca: ", words.as_bytes(), b"\n"])
 }
 
 /// Writes a line of these words after the name.
 fn write_whole<E: Sink>(err: &mut E, name: &[u8], words: &str) -> Result<(), Put>
-    ensures { WritesTo E.held E.faults E.beside E.asked_beside err.old err.new (placed_line name.now (Whole, words.now)) result }
+    ensures { WritesTo E.held E.faults E.beside E.read_counts_beside err.old err.new (placed_line name.now (Whole, words.now)) result }
 {
     write_all_bytes(err, &[b"fca: ", name, b": ", words.as_bytes(), b"\n"])
 }
 
 /// Writes the line of a fault in what has this name.
 fn write_placed<E: Sink>(err: &mut E, name: &[u8], description: &Description) -> Result<(), Put>
-    ensures { WritesTo E.held E.faults E.beside E.asked_beside err.old err.new (placed_line name.now description.now) result }
+    ensures { WritesTo E.held E.faults E.beside E.read_counts_beside err.old err.new (placed_line name.now description.now) result }
 {
     match description.place {
         FaultPlace::Whole => write_whole(err, name, description.words),
@@ -126,7 +126,7 @@ fn write_numbered<'a, E: Sink>(
     number: usize,
     words: &'a str,
 ) -> Result<(), Put>
-    ensures { WritesTo E.held E.faults E.beside E.asked_beside err.old err.new (numbered_line name.now kind.now number words.now) result }
+    ensures { WritesTo E.held E.faults E.beside E.read_counts_beside err.old err.new (numbered_line name.now kind.now number words.now) result }
 {
     write_all_bytes(
         err,
@@ -151,7 +151,7 @@ fn write_field<E: Sink>(
     field: usize,
     words: &str,
 ) -> Result<(), Put>
-    ensures { WritesTo E.held E.faults E.beside E.asked_beside err.old err.new
+    ensures { WritesTo E.held E.faults E.beside E.read_counts_beside err.old err.new
         (placed_line name.now (Field number field, words.now)) result }
 {
     write_all_bytes(
@@ -172,7 +172,7 @@ fn write_field<E: Sink>(
 
 /// Writes the line of a row that breaks a known implication, by the places of both.
 fn write_breaks<E: Sink>(err: &mut E, name: &[u8], row: usize, rule: usize) -> Result<(), Put>
-    ensures { WritesTo E.held E.faults E.beside E.asked_beside err.old err.new (breaks_line name.now row rule) result }
+    ensures { WritesTo E.held E.faults E.beside E.read_counts_beside err.old err.new (breaks_line name.now row rule) result }
 {
     write_all_bytes(
         err,
@@ -190,7 +190,7 @@ fn write_breaks<E: Sink>(err: &mut E, name: &[u8], row: usize, rule: usize) -> R
 
 /// Appends the parts in their order.
 fn write_all_bytes<E: Sink>(err: &mut E, parts: &[&[u8]]) -> Result<(), Put>
-    ensures { WritesTo E.held E.faults E.beside E.asked_beside err.old err.new (flat_map (λ part. part.now) parts.now) result }
+    ensures { WritesTo E.held E.faults E.beside E.read_counts_beside err.old err.new (flat_map (λ part. part.now) parts.now) result }
 {
     for part in parts {
         write_bytes(err, part)?;

@@ -6,7 +6,7 @@ ghost use Rattle.fca_model.specs.declared.TheConstants.{FILE_BYTES};
 ghost use Rattle.fca_io.specs.Faults.{Rose, one_more};
 ghost use Rattle.fca_io.specs.Shelves.{MayHold};
 ghost use Rattle.command_io.specs.Readings.{SameCounts};
-ghost use Rattle.command_io.specs.Causes.{UnlessFault, IsFetchStop, taken_stop};
+ghost use Rattle.command_io.specs.Causes.{UnlessReadFault, IsFetchStop, taken_stop};
 
 use crate::stop::{Origin, Stop};
 use fca_io::{Shelf, Taken};
@@ -24,7 +24,7 @@ pub(crate) fn fetch_file<H: Shelf>(
     ensures within { IfOk result (λ v. vec_len v ≤ FILE_BYTES) }
     ensures cause { IfErr result (IsFetchStop (H.tells shelf.old file.now)
         (Rose (H.faults shelf.old file.now) (H.faults shelf.new file.now)) origin) }
-    ensures quiet { UnlessFault result (SameCounts (H.faults shelf.old) (H.faults shelf.new)) }
+    ensures quiet { UnlessReadFault result (SameCounts (H.faults shelf.old) (H.faults shelf.new)) }
     ensures counted { H.fetches shelf.new ≡ option_map one_more (H.fetches shelf.old) }
     ensures kept { (other : List ℕ) → H.tells shelf.new other ≡ H.tells shelf.old other }
     ensures only_rise { (other : List ℕ) → H.faults shelf.old other ≤ H.faults shelf.new other }
@@ -40,7 +40,7 @@ pub(crate) fn taken_stop(taken: Taken, origin: Origin) -> Stop
     ensures { result ≡ taken_stop taken origin }
 {
     match taken {
-        Taken::Failed => Stop::Fault(origin),
+        Taken::Failed => Stop::ReadFault(origin),
         Taken::Long => Stop::TooLong(origin),
         Taken::Memory => Stop::Memory,
     }

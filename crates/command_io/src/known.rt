@@ -8,7 +8,7 @@ ghost use Rattle.implication_closure.specs.Closing.{HaveWidth};
 ghost use Rattle.explore_state.specs.Faults.{first_break};
 ghost use Rattle.expert_scripts.specs.Known.{known_form};
 ghost use Rattle.command_io.specs.Readings.{formed, MayRead, MayRefuse, Rises, SameCounts};
-ghost use Rattle.command_io.specs.Causes.{UnlessFault};
+ghost use Rattle.command_io.specs.Causes.{UnlessReadFault};
 ghost use Rattle.command_io.specs.Known.{implications_read, known_file_read, known_read, start_of, start_read, IsBreakStop};
 ghost use Rattle.command_io.specs.Known.{IsImplicationsStop, IsKnownFileStop, IsKnownStop, IsStartStop};
 ghost use Rattle.command_io.specs.Endings.{IsRefusal};
@@ -44,7 +44,7 @@ pub fn load_start<H: Shelf>(
     ensures respected { IfOk result (λ start. first_break start.known.members 0 start.table.context.rows ≡ None) }
     ensures refused { IfErr result (λ stop. IsRefusal stop → MayRefuse (start_read file.now (option_copied known.entry) (H.tells shelf.old))) }
     ensures cause { IfErr result (IsStartStop file.now (option_copied known.entry) (H.tells shelf.old) (Rises (H.faults shelf.old) (H.faults shelf.new))) }
-    ensures quiet { UnlessFault result (SameCounts (H.faults shelf.old) (H.faults shelf.new)) }
+    ensures quiet { UnlessReadFault result (SameCounts (H.faults shelf.old) (H.faults shelf.new)) }
     ensures few { RoseAtMost (H.fetches shelf.old) (H.fetches shelf.new) (length (file.now ∷ option_to_list (option_copied known.entry))) }
     ensures kept { (other : List ℕ) → H.tells shelf.new other ≡ H.tells shelf.old other }
     ensures only_rise { (other : List ℕ) → H.faults shelf.old other ≤ H.faults shelf.new other }
@@ -67,7 +67,7 @@ fn load_known<H: Shelf>(
     ensures respected { IfOk result (λ list. first_break list.members 0 table.now.context.rows ≡ None) }
     ensures refused { IfErr result (λ stop. IsRefusal stop → MayRefuse (known_read (option_copied known.entry) table.now (H.tells shelf.old))) }
     ensures cause { IfErr result (IsKnownStop (option_copied known.entry) table.now (H.tells shelf.old) (Rises (H.faults shelf.old) (H.faults shelf.new))) }
-    ensures quiet { UnlessFault result (SameCounts (H.faults shelf.old) (H.faults shelf.new)) }
+    ensures quiet { UnlessReadFault result (SameCounts (H.faults shelf.old) (H.faults shelf.new)) }
     ensures few { RoseAtMost (H.fetches shelf.old) (H.fetches shelf.new) (length (option_to_list (option_copied known.entry))) }
     ensures kept { (other : List ℕ) → H.tells shelf.new other ≡ H.tells shelf.old other }
     ensures only_rise { (other : List ℕ) → H.faults shelf.old other ≤ H.faults shelf.new other }
@@ -92,7 +92,7 @@ fn load_known_file<H: Shelf>(
     ensures refused { IfErr result (λ stop. IsRefusal stop → MayRefuse (known_file_read table.now (H.tells shelf.old file.now))) }
     ensures cause { IfErr result (IsKnownFileStop table.now (H.tells shelf.old file.now)
         (Rose (H.faults shelf.old file.now) (H.faults shelf.new file.now))) }
-    ensures quiet { UnlessFault result (SameCounts (H.faults shelf.old) (H.faults shelf.new)) }
+    ensures quiet { UnlessReadFault result (SameCounts (H.faults shelf.old) (H.faults shelf.new)) }
     ensures counted { H.fetches shelf.new ≡ option_map one_more (H.fetches shelf.old) }
     ensures kept { (other : List ℕ) → H.tells shelf.new other ≡ H.tells shelf.old other }
     ensures only_rise { (other : List ℕ) → H.faults shelf.old other ≤ H.faults shelf.new other }
@@ -116,7 +116,7 @@ fn load_implications<H: Shelf>(
     ensures refused { IfErr result (λ stop. IsRefusal stop → MayRefuse (implications_read n (H.tells shelf.old file.now))) }
     ensures cause { IfErr result (IsImplicationsStop n (H.tells shelf.old file.now)
         (Rose (H.faults shelf.old file.now) (H.faults shelf.new file.now))) }
-    ensures quiet { UnlessFault result (SameCounts (H.faults shelf.old) (H.faults shelf.new)) }
+    ensures quiet { UnlessReadFault result (SameCounts (H.faults shelf.old) (H.faults shelf.new)) }
     ensures counted { H.fetches shelf.new ≡ option_map one_more (H.fetches shelf.old) }
     ensures kept { (other : List ℕ) → H.tells shelf.new other ≡ H.tells shelf.old other }
     ensures only_rise { (other : List ℕ) → H.faults shelf.old other ≤ H.faults shelf.new other }

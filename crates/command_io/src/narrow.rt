@@ -8,7 +8,7 @@ ghost use Rattle.csv_context.specs.Form.{csv_form};
 ghost use Rattle.command_io.specs.Readings.{formed, MayRead, MayRefuse, SameCounts};
 ghost use Rattle.command_io.specs.Forms.{is_csv, table_formed, table_read};
 ghost use Rattle.command_io.specs.Narrow.{untitled_reading};
-ghost use Rattle.command_io.specs.Causes.{UnlessFault, IsFormStop, IsFileStop};
+ghost use Rattle.command_io.specs.Causes.{UnlessReadFault, IsFormStop, IsFileStop};
 ghost use Rattle.command_io.specs.Endings.{IsRefusal};
 
 use crate::fetch::fetch_file;
@@ -31,7 +31,7 @@ pub fn load_narrow_table<H: Shelf>(
     ensures refused { IfErr result (λ stop. IsRefusal stop → MayRefuse (table_read file.now (H.tells shelf.old file.now))) }
     ensures cause { IfErr result (IsFileStop file.now (H.tells shelf.old file.now)
         (Rose (H.faults shelf.old file.now) (H.faults shelf.new file.now)) origin) }
-    ensures quiet { UnlessFault result (SameCounts (H.faults shelf.old) (H.faults shelf.new)) }
+    ensures quiet { UnlessReadFault result (SameCounts (H.faults shelf.old) (H.faults shelf.new)) }
     ensures counted { H.fetches shelf.new ≡ option_map one_more (H.fetches shelf.old) }
     ensures kept { (other : List ℕ) → H.tells shelf.new other ≡ H.tells shelf.old other }
     ensures only_rise { (other : List ℕ) → H.faults shelf.old other ≤ H.faults shelf.new other }

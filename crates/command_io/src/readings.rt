@@ -13,7 +13,7 @@ ghost use Rattle.cxt_format.specs.Form.{cxt_form};
 ghost use Rattle.csv_context.specs.Form.{csv_form};
 ghost use Rattle.command_io.specs.Readings.{formed, MayRead, MayRefuse, SameCounts};
 ghost use Rattle.command_io.specs.Forms.{is_csv, table_formed, table_read, script_read};
-ghost use Rattle.command_io.specs.Causes.{UnlessFault, IsFormStop, IsFileStop, IsScriptStop};
+ghost use Rattle.command_io.specs.Causes.{UnlessReadFault, IsFormStop, IsFileStop, IsScriptStop};
 ghost use Rattle.command_io.specs.Endings.{IsRefusal};
 
 use crate::fetch::{fetch_file, taken_stop};
@@ -37,7 +37,7 @@ pub fn load_table<H: Shelf>(
     ensures refused { IfErr result (λ stop. IsRefusal stop → MayRefuse (table_read file.now (H.tells shelf.old file.now))) }
     ensures cause { IfErr result (IsFileStop file.now (H.tells shelf.old file.now)
         (Rose (H.faults shelf.old file.now) (H.faults shelf.new file.now)) origin) }
-    ensures quiet { UnlessFault result (SameCounts (H.faults shelf.old) (H.faults shelf.new)) }
+    ensures quiet { UnlessReadFault result (SameCounts (H.faults shelf.old) (H.faults shelf.new)) }
     ensures counted { H.fetches shelf.new ≡ option_map one_more (H.fetches shelf.old) }
     ensures kept { (other : List ℕ) → H.tells shelf.new other ≡ H.tells shelf.old other }
     ensures only_rise { (other : List ℕ) → H.faults shelf.old other ≤ H.faults shelf.new other }
@@ -101,7 +101,7 @@ pub fn load_script<S: Source>(alloc: Global, input: &mut S, n: u32) -> Result<Sc
     ensures fits { IfOk result (λ script. list_all (may_apply n) script.events ≡ true) }
     ensures refused { IfErr result (λ stop. IsRefusal stop → MayRefuse (script_read n (S.left input.old))) }
     ensures cause { IfErr result (IsScriptStop n (S.left input.old) (Rose (S.faults input.old) (S.faults input.new))) }
-    ensures quiet { UnlessFault result (S.faults input.new ≡ S.faults input.old) }
+    ensures quiet { UnlessReadFault result (S.faults input.new ≡ S.faults input.old) }
     ensures only_rise { S.faults input.old ≤ S.faults input.new }
 
     ensures end { OnOk result (IsAtEnd (S.left input.new)) }

@@ -9,7 +9,7 @@ ghost use Rattle.context_scaling.specs.PlanForm.{plan_form};
 ghost use Rattle.context_scaling.specs.Scaling.{Fits};
 ghost use Rattle.command_io.specs.Readings.{formed, MayRead, MayRefuse, SameCounts};
 ghost use Rattle.command_io.specs.Forms.{values_read, plan_read};
-ghost use Rattle.command_io.specs.Causes.{UnlessFault, IsValuesStop, IsPlanStop};
+ghost use Rattle.command_io.specs.Causes.{UnlessReadFault, IsValuesStop, IsPlanStop};
 ghost use Rattle.command_io.specs.Endings.{IsRefusal};
 
 use crate::fetch::fetch_file;
@@ -31,7 +31,7 @@ pub fn load_values<H: Shelf>(
     ensures refused { IfErr result (λ stop. IsRefusal stop → MayRefuse (values_read (H.tells shelf.old file.now))) }
     ensures cause { IfErr result (IsValuesStop (H.tells shelf.old file.now)
         (Rose (H.faults shelf.old file.now) (H.faults shelf.new file.now)) origin) }
-    ensures quiet { UnlessFault result (SameCounts (H.faults shelf.old) (H.faults shelf.new)) }
+    ensures quiet { UnlessReadFault result (SameCounts (H.faults shelf.old) (H.faults shelf.new)) }
     ensures counted { H.fetches shelf.new ≡ option_map one_more (H.fetches shelf.old) }
     ensures kept { (other : List ℕ) → H.tells shelf.new other ≡ H.tells shelf.old other }
     ensures only_rise { (other : List ℕ) → H.faults shelf.old other ≤ H.faults shelf.new other }
@@ -67,7 +67,7 @@ pub fn load_plan<H: Shelf>(
     ensures refused { IfErr result (λ stop. IsRefusal stop → MayRefuse (plan_read values.now (H.tells shelf.old file.now))) }
     ensures cause { IfErr result (IsPlanStop values.now (H.tells shelf.old file.now)
         (Rose (H.faults shelf.old file.now) (H.faults shelf.new file.now)) origin) }
-    ensures quiet { UnlessFault result (SameCounts (H.faults shelf.old) (H.faults shelf.new)) }
+    ensures quiet { UnlessReadFault result (SameCounts (H.faults shelf.old) (H.faults shelf.new)) }
     ensures counted { H.fetches shelf.new ≡ option_map one_more (H.fetches shelf.old) }
     ensures kept { (other : List ℕ) → H.tells shelf.new other ≡ H.tells shelf.old other }
     ensures only_rise { (other : List ℕ) → H.faults shelf.old other ≤ H.faults shelf.new other }

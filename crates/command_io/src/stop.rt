@@ -41,7 +41,7 @@ pub enum Stop {
     UnknownAttribute,
     /// An expert's table has other attributes than the table that is explored.
     OtherAttributes(Origin),
-    Fault(Origin),
+    ReadFault(Origin),
     Listener,
     Memory,
 }
@@ -89,7 +89,7 @@ impl Stop {
             | Stop::BadPlan(origin, _)
             | Stop::RowBreaks(origin, ..)
             | Stop::OtherAttributes(origin)
-            | Stop::Fault(origin) => *origin,
+            | Stop::ReadFault(origin) => *origin,
             Stop::NoKnown(_) => Origin::Known,
             _ => Origin::File,
         }
@@ -111,7 +111,7 @@ impl Stop {
             | Stop::NoScript(_)
             | Stop::UnknownAttribute
             | Stop::OtherAttributes(_) => 2,
-            Stop::Fault(_) => 3,
+            Stop::ReadFault(_) => 3,
             Stop::Memory => 5,
             Stop::Listener => 7,
         }

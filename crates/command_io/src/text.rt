@@ -63,7 +63,7 @@ impl Text {
 
     /// Appends the whole text to out. After an `Err`, out holds a front of it.
     pub(crate) fn write<R: Threads + Sync, K: Sink>(self, rt: &R, out: &mut K) -> Result<(), Put>
-        ensures { WritesTo K.held K.faults K.beside K.asked_beside out.old out.new self result }
+        ensures { WritesTo K.held K.faults K.beside K.read_counts_beside out.old out.new self result }
     {
         match self.layout {
             Layout::OneList(bytes) => write_bytes(out, &bytes),
@@ -75,7 +75,7 @@ impl Text {
 
 /// Appends the pieces in their order.
 fn write_pieces<K: Sink>(out: &mut K, pieces: &[Vec<u8>]) -> Result<(), Put>
-    ensures { WritesTo K.held K.faults K.beside K.asked_beside out.old out.new (flat_map (λ piece. piece.items) pieces.now) result }
+    ensures { WritesTo K.held K.faults K.beside K.read_counts_beside out.old out.new (flat_map (λ piece. piece.items) pieces.now) result }
 {
     for piece in pieces {
         write_bytes(out, piece)?;

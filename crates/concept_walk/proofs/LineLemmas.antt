@@ -12,7 +12,7 @@ use Rattle.fca_model.specs.Pseudo.{intents}
 use Rattle.expert_wire.specs.Texts.{line_end, ordinal, comma_list, names_of, braces_text, arrow_text}
 use Rattle.lectic_concepts.specs.Concepts.{concept_of, concepts}
 use Rattle.report_texts.specs.Reports.{names_at, concept_line, concepts_text}
-use Rattle.packed_concepts.specs.Lines.{Named, line_of, lines_from, lines_text}
+use Rattle.packed_concepts.specs.Lines.{TableNames, line_of, lines_from, lines_text}
 use Rattle.concept_walk.specs.Gatherings.{Fills, concept_at}
 use Rattle.concept_walk.specs.declared.gathering.Gathering.{Gathering}
 
@@ -35,7 +35,7 @@ arrow-parts names old number i G is =
     regroup o n p g = simp append_assoc
 
 -- the names of a table
-abbrev pub named : NamedContext → Named
+abbrev pub named : NamedContext → TableNames
 named t = record { attributes = t.attributes; objects = t.objects }
 
 -- the line is that of the concept

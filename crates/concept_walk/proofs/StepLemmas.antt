@@ -7,8 +7,8 @@ use Rattle.fca_model.specs.Sets.{Set}
 use Rattle.fca_model.specs.Context.{Context}
 use Rattle.lectic_concepts.specs.Branches.{branch}
 use Rattle.concept_walk.specs.Gatherings.{Fills}
-use Rattle.concept_walk.specs.Steps.{IsStep, BeginsAt, IsFurther, AreLeft, HasDescended, room_left}
-use Rattle.fca_model.specs.Room.{room}
+use Rattle.concept_walk.specs.Steps.{IsStep, BeginsAt, IsFurther, AreLeft, HasDescended, steps_left}
+use Rattle.fca_model.specs.Room.{steps_bound}
 use Rattle.fca_model.proofs.RoomLemmas.{room_less, room_below}
 use Rattle.concept_walk.specs.declared.gathering.Gathering.{Gathering}
 use Rattle.concept_walk.specs.declared.steps.Step.{Step}
@@ -91,27 +91,27 @@ walk_done K All old gathering (step ∷ steps) none w = absurd (omega (arith, no
 -- ---- room for steps
 
 module _ (n : ℕ) {W : ℕ} {olds : List (Step W)} (steps : List (Step W)) (step : Step W) (is : olds ≡ steps ++ step ∷ []) where
-  all_room : room_left n olds ≡ room_left n steps + room n step.from step.candidates.end
-  all_room = ap (λ (xs : List (Step W)). room_left n xs) is ∙ sum_by_push (λ (s : Step W). room n s.from s.candidates.end) steps step
+  all_room : steps_left n olds ≡ steps_left n steps + steps_bound n step.from step.candidates.end
+  all_room = ap (λ (xs : List (Step W)). steps_left n xs) is ∙ sum_by_push (λ (s : Step W). steps_bound n s.from s.candidates.end) steps step
 
-  pub room_done : room_left n steps < room_left n olds
+  pub room_done : steps_left n steps < steps_left n olds
   room_done = omega (arith, all_room)
 
   module _ {news : List (Step W)} (new : Step W) (on : news ≡ steps ++ new ∷ []) (from : new.from ≡ step.from)
       (low : step.from ≤ new.candidates.end) (less : new.candidates.end < step.candidates.end) (inside : step.candidates.end ≤ n) where
-    new_room : room_left n news ≡ room_left n steps + room n step.from new.candidates.end
-    new_room = ap (λ (xs : List (Step W)). room_left n xs) on ∙ sum_by_push (λ (s : Step W). room n s.from s.candidates.end) steps new
-        ∙ ap (λ f. room_left n steps + room n f new.candidates.end) from
+    new_room : steps_left n news ≡ steps_left n steps + steps_bound n step.from new.candidates.end
+    new_room = ap (λ (xs : List (Step W)). steps_left n xs) on ∙ sum_by_push (λ (s : Step W). steps_bound n s.from s.candidates.end) steps new
+        ∙ ap (λ f. steps_left n steps + steps_bound n f new.candidates.end) from
 
-    pub room_tried : room_left n news < room_left n olds
+    pub room_tried : steps_left n news < steps_left n olds
     room_tried = omega (arith, all_room, new_room, room_less n step.from new.candidates.end step.candidates.end low less inside)
 
     pub room_deeper : {lasts : List (Step W)} (below : Step W) → lasts ≡ news ++ below ∷ [] → below.from ≡ new.candidates.end + 1
-        → room_left n lasts < room_left n olds
+        → steps_left n lasts < steps_left n olds
     room_deeper {lasts = lasts} below deeper next =
-        let last : room_left n lasts ≡ room_left n news + room n (new.candidates.end + 1) below.candidates.end =
-        ap (λ (xs : List (Step W)). room_left n xs) deeper ∙ sum_by_push (λ (s : Step W). room n s.from s.candidates.end) news below
-        ∙ ap (λ f. room_left n news + room n f below.candidates.end) next in
+        let last : steps_left n lasts ≡ steps_left n news + steps_bound n (new.candidates.end + 1) below.candidates.end =
+        ap (λ (xs : List (Step W)). steps_left n xs) deeper ∙ sum_by_push (λ (s : Step W). steps_bound n s.from s.candidates.end) news below
+        ∙ ap (λ f. steps_left n news + steps_bound n f below.candidates.end) next in
         omega (
           arith,
           all_room,

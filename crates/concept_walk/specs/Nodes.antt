@@ -4,7 +4,7 @@ use Rattle.fca_model.specs.Sets.{Set}
 use Rattle.fca_model.specs.Context.{Context, extent, is_closed}
 use Rattle.lectic_concepts.specs.Branches.{AreWitnesses}
 use Rattle.extent_places.specs.Few.{AreFew}
-use Rattle.extent_places.specs.Tries.{AreTries}
+use Rattle.extent_places.specs.Tries.{AreAttributesToTry}
 use Rattle.extent_places.specs.declared.few.FewObjects.{FewObjects}
 use Rattle.concept_walk.specs.declared.node.Node.{Node}
 use Rattle.concept_walk.specs.declared.node.Candidates.{Candidates}
@@ -29,5 +29,5 @@ pub record IsFewNode (K : Context) {W : ℕ} (few : FewObjects W) (node : FewNod
 -- a child of A comes from one of these attributes
 pub record AreCandidates (K : Context) {W : ℕ} (A : Set) (candidates : Candidates W) : Type 0 where
   pub wide : length candidates.tries ≡ K.width
-  pub tries : AreTries K A candidates.tries
+  pub tries : AreAttributesToTry K A candidates.tries
   pub inside : candidates.end ≤ K.width

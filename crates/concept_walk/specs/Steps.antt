@@ -4,7 +4,7 @@ use Rattle.std.specs.List.{sum_by}
 use Rattle.fca_model.specs.Sets.{Set}
 use Rattle.fca_model.specs.Context.{Context, extent, is_closed}
 use Rattle.lectic_concepts.specs.Branches.{branch, AreWitnesses}
-use Rattle.fca_model.specs.Room.{room}
+use Rattle.fca_model.specs.Room.{steps_bound}
 use Rattle.concept_walk.specs.Nodes.{AreCandidates}
 use Rattle.concept_walk.specs.Gatherings.{Fills}
 use Rattle.concept_walk.specs.declared.node.Candidates.{Candidates}
@@ -64,6 +64,6 @@ AreLeft K All (step ∷ steps) Done =
     IsStep K step × ((Before : List Set) × (Done ≡ Before ++ branch K step.intent step.candidates.end)
     × AreLeft K All steps (Before ++ branch K step.intent step.from))
 
--- the room for steps that is left
-abbrev pub room_left : ℕ → {W : ℕ} → List (Step W) → ℕ
-room_left n steps = sum_by (λ step. room n step.from step.candidates.end) steps
+-- how many steps are left at most
+abbrev pub steps_left : ℕ → {W : ℕ} → List (Step W) → ℕ
+steps_left n steps = sum_by (λ step. steps_bound n step.from step.candidates.end) steps

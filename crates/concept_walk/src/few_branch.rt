@@ -14,7 +14,9 @@ use crate::node::Node;
 use crate::notes::{begin_notes, known_witnesses};
 use crate::scratch::{WorkListPool, WorkLists, take_lists};
 use attr_bits::Bits;
-use extent_places::{FEW_OBJECTS, FewObjects, ObjectSet, SmallConcept, last_member, tries_of};
+use extent_places::{
+    FEW_OBJECTS, FewObjects, ObjectSet, SmallConcept, attributes_to_try, last_member,
+};
 use fca_model::Memory;
 use lectic_concepts::{is_child, is_to_try, note, pass_witnesses};
 use std::alloc::Global;
@@ -75,7 +77,7 @@ fn gather_few<const W: usize>(
     let mut scratch = take_lists(alloc, free);
     few.put_places(rows, a, node.objects, &mut scratch.found)?;
     gathering.add(crosses, a, &scratch.found)?;
-    let tries = tries_of(rows, a, &scratch.found);
+    let tries = attributes_to_try(rows, a, &scratch.found);
     while let Some(i) = last_member(&tries, node.from, end) {
         end = i;
         if !is_to_try(

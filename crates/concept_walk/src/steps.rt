@@ -14,7 +14,7 @@ use crate::node::{Candidates, Node};
 use crate::notes::known_witnesses;
 use crate::scratch::{WorkListPool, WorkLists, take_lists};
 use attr_bits::Bits;
-use extent_places::{last_member, pays_to_set_apart, tries_of};
+use extent_places::{attributes_to_try, last_member, pays_to_set_apart};
 use fca_model::Memory;
 use lectic_concepts::pass_witnesses;
 use std::alloc::Global;
@@ -69,7 +69,7 @@ pub(crate) fn enter<const W: usize>(
         return Ok(None);
     }
     gathering.add(crosses, node.intent, node.places)?;
-    let tries = tries_of(rows, node.intent, node.places);
+    let tries = attributes_to_try(rows, node.intent, node.places);
     let Some(last) = last_member(&tries, node.from, width) else {
         return Ok(None);
     };

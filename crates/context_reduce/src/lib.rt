@@ -21,7 +21,7 @@ use context_table::Table;
 use fca_model::{Memory, Places};
 pub use finding::arrows;
 pub use parts::part;
-use rows::{distinct_rows, irreducible_objects};
+use rows::{distinct_objects, irreducible_objects};
 use std::alloc::Global;
 pub use texts::arrows_text;
 
@@ -41,7 +41,7 @@ pub fn clarify(alloc: Global, table: &Table) -> Result<Kept, Memory>
 {
     let rows = table.rows();
     Ok(Kept {
-        objects: distinct_rows(alloc, rows)?,
+        objects: distinct_objects(alloc, rows)?,
         attributes: distinct_attributes(alloc, rows)?,
     })
 }

@@ -12,7 +12,7 @@ use std::alloc::Global;
 use std::collections::BTreeSet;
 
 /// The places of the rows that differ from each earlier one.
-pub(crate) fn distinct_rows(alloc: Global, rows: &Rows) -> Result<Places, Memory>
+pub(crate) fn distinct_objects(alloc: Global, rows: &Rows) -> Result<Places, Memory>
     ensures { IfOk result (λ places. places ≡ distinct_objects rows.now) }
 {
     let mut seen = BTreeSet::new(alloc);
@@ -30,7 +30,7 @@ pub(crate) fn distinct_rows(alloc: Global, rows: &Rows) -> Result<Places, Memory
 pub(crate) fn irreducible_objects(alloc: Global, rows: &Rows) -> Result<Places, Memory>
     ensures { IfOk result (λ places. places ≡ irreducible_objects rows.now) }
 {
-    let places = distinct_rows(alloc, rows)?;
+    let places = distinct_objects(alloc, rows)?;
     irreducible_rows(alloc, rows, &places)
 }
 

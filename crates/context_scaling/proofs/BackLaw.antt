@@ -10,8 +10,8 @@ use Rattle.context_table.specs.Table.{first_repeat}
 use Rattle.fca_model.specs.Sets.{Set}
 use Rattle.fca_model.specs.Tables.{Text}
 use Rattle.value_tables.specs.Numbers.{number_of}
-use Rattle.context_scaling.specs.Scaling.{Scaling, each_relation, made_names, made_name, names_of, stands}
-use Rattle.context_scaling.specs.Back.{GivesBack, NoneBetween, begin_of, scaling_at, TellsBounds, single_place, back_by}
+use Rattle.context_scaling.specs.Scaling.{PlanRecord, each_relation, made_names, made_name, names_of, stands}
+use Rattle.context_scaling.specs.Back.{GivesBack, NoneBetween, begin_of, plan_record_at, TellsBounds, single_place, back_by}
 use Rattle.context_scaling.specs.Back.{back_between, marked_values, narrower_bound_of, places_from}
 use Rattle.context_scaling.specs.declared.scales.Kind.{Kind}
 use Rattle.context_scaling.specs.declared.scales.Kind.TheVariants as kind
@@ -137,16 +137,16 @@ gives_back kind.Interordinal values (byte ∷ text) rest once = λ n is.
 
 -- ---- names that differ
 
-module _ (plan : List Scaling) (k : ℕ) (below : k < length plan) (nominal : (scaling_at plan k).kind ≡ kind.Nominal) (text : Text) where
-  names_are : names_of (scaling_at plan k) ≡ map (made_name (scaling_at plan k).attribute relation.Equal) (scaling_at plan k).values
+module _ (plan : List PlanRecord) (k : ℕ) (below : k < length plan) (nominal : (plan_record_at plan k).kind ≡ kind.Nominal) (text : Text) where
+  names_are : names_of (plan_record_at plan k) ≡ map (made_name (plan_record_at plan k).attribute relation.Equal) (plan_record_at plan k).values
   names_are = rw nominal refl
 
   -- the name that the scale value makes stands in its place
-  name_at : (p : ℕ) → slice_get (scaling_at plan k).values p ≡ Some (value.Text text)
+  name_at : (p : ℕ) → slice_get (plan_record_at plan k).values p ≡ Some (value.Text text)
       → (begin_of plan k + p < length (made_names plan))
-      × (get_or (made_names plan) (begin_of plan k + p) [] ≡ made_name (scaling_at plan k).attribute relation.Equal (value.Text text))
+      × (get_or (made_names plan) (begin_of plan k + p) [] ≡ made_name (plan_record_at plan k).attribute relation.Equal (value.Text text))
   name_at p at =
-      let s = scaling_at plan k in
+      let s = plan_record_at plan k in
       let begin = begin_of plan k in
       let rest = made_names (drop (suc k) plan) in
       let within = slice_get_within s.values p (value.Text text) at in
@@ -163,7 +163,7 @@ module _ (plan : List Scaling) (k : ℕ) (below : k < length plan) (nominal : (s
             ∙ ap (made_name s.attribute relation.Equal) (get_or_from_slice_get s.values p (value.Text text) (value.Text text) at),
       )
 
-  pub stands_once : first_repeat (made_names plan) ≡ None → StandsOnce (scaling_at plan k).values text
+  pub stands_once : first_repeat (made_names plan) ≡ None → StandsOnce (plan_record_at plan k).values text
   stands_once differing = λ p q first second.
       let a = name_at p first in
       let b = name_at q second in

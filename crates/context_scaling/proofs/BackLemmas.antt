@@ -9,8 +9,8 @@ use Rattle.std.proofs.lemmas.Int.{ints}
 use Rattle.fca_model.specs.Sets.{Set}
 use Rattle.fca_model.specs.Tables.{Text}
 use Rattle.value_tables.specs.Values.{ObjectValues, value_at}
-use Rattle.context_scaling.specs.Scaling.{Scaling, made_names, names_of, scale_row, object_row, stands}
-use Rattle.context_scaling.specs.Back.{begin_of, scaling_at, no_scaling, marked_values, is_narrower, narrower_bound_of, narrower_bound}
+use Rattle.context_scaling.specs.Scaling.{PlanRecord, made_names, names_of, scale_row, object_row, stands}
+use Rattle.context_scaling.specs.Back.{begin_of, plan_record_at, no_plan_record, marked_values, is_narrower, narrower_bound_of, narrower_bound}
 use Rattle.context_scaling.specs.declared.scales.Relation.{Relation}
 use Rattle.context_scaling.specs.declared.scales.Relation.TheVariants as relation
 use Rattle.context_scaling.specs.declared.scales.ScaleValue.{ScaleValue}
@@ -36,15 +36,15 @@ module _ {X Y Z : Type 0} (f : X → List Y) (g : X → List Z) (same : (x : X) 
       ∙ part_from xs k less
       )
 
-pub row_from : (plan : List Scaling) (k : ℕ) (object : ObjectValues) → k < length plan
-    → drop (begin_of plan k) (object_row plan object) ≡ scale_row (scaling_at plan k) (value_at (scaling_at plan k).place object)
+pub row_from : (plan : List PlanRecord) (k : ℕ) (object : ObjectValues) → k < length plan
+    → drop (begin_of plan k) (object_row plan object) ≡ scale_row (plan_record_at plan k) (value_at (plan_record_at plan k).place object)
     ++ object_row (drop (suc k) plan) object
 row_from plan k object below = part_from (λ s. scale_row s (value_at s.place object)) names_of
-    (λ s. scale_length s (value_at s.place object)) no_scaling plan k below
+    (λ s. scale_length s (value_at s.place object)) no_plan_record plan k below
 
-pub names_from : (plan : List Scaling) (k : ℕ) → k < length plan
-    → drop (begin_of plan k) (made_names plan) ≡ names_of (scaling_at plan k) ++ made_names (drop (suc k) plan)
-names_from plan k below = part_from names_of names_of (λ s. refl) no_scaling plan k below
+pub names_from : (plan : List PlanRecord) (k : ℕ) → k < length plan
+    → drop (begin_of plan k) (made_names plan) ≡ names_of (plan_record_at plan k) ++ made_names (drop (suc k) plan)
+names_from plan k below = part_from names_of names_of (λ s. refl) no_plan_record plan k below
 
 -- ---- bounds
 

@@ -3,7 +3,7 @@ use Rattle.std.proofs.Common.{◌≡◌, [], ◌∷◌, Some, None, List, map, p
 use Rattle.std.specs.Fmt.{digits}
 use Rattle.fca_model.proofs.DrawnSets.{s}
 use Rattle.value_tables.specs.Values.{ObjectValues}
-use Rattle.context_scaling.specs.Scaling.{Scaling, made_names, object_row}
+use Rattle.context_scaling.specs.Scaling.{PlanRecord, made_names, object_row}
 use Rattle.context_scaling.specs.Back.{back_at}
 use Rattle.context_scaling.specs.declared.back.Back.TheVariants as back
 use Rattle.context_scaling.specs.declared.scales.Kind.TheVariants as kind
@@ -15,7 +15,7 @@ people = record { name = codes "tim"; values = codes "21" ∷ codes "s" ∷ [] }
   values = codes "35" ∷ codes "l" ∷ [];
 } ∷ []
 
-abbrev bounds : List Scaling
+abbrev bounds : List PlanRecord
 bounds = record {
   kind = kind.Interordinal;
   attribute = codes "age";
@@ -23,7 +23,7 @@ bounds = record {
   values = value.Number (pos 21) ∷ value.Number (pos 30) ∷ [];
 } ∷ []
 
-abbrev sizes : List Scaling
+abbrev sizes : List PlanRecord
 sizes = record {
   kind = kind.Nominal;
   attribute = codes "size";

@@ -4,10 +4,10 @@ use Rattle.std.proofs.Common.{append-nil, append_assoc, inl, inr, refl, sym, ap,
 use Rattle.text_pieces.specs.Lists.{EachName}
 use Rattle.csv_context.specs.Records.{Record}
 use Rattle.value_tables.specs.Values.{ValueTable}
-use Rattle.context_scaling.specs.Back.{scaling_at}
+use Rattle.context_scaling.specs.Back.{plan_record_at}
 use Rattle.context_scaling.specs.PlanForm.{record_form, records_form}
 use Rattle.context_scaling.specs.Refusals.{IsRefused, MakePlan, record_at}
-use Rattle.context_scaling.specs.Scaling.{Scaling, made_names}
+use Rattle.context_scaling.specs.Scaling.{PlanRecord, made_names}
 use Rattle.context_scaling.specs.declared.PlanFault.{PlanFault}
 use Rattle.context_scaling.proofs.RefusalLemmas.{cases-Result, ok-err, same-fault, same-ok}
 use Rattle.context_scaling.proofs.RefusalLaw.{record-made, record-refused}
@@ -15,22 +15,22 @@ use Rattle.context_scaling.proofs.RefusalLaw.{record-made, record-refused}
 -- ---- one scaling each
 
 -- records from record i on, behind these scalings, make one scaling each
-record Steps (t : ValueTable) (i : ℕ) (before : List Scaling) (all : List Record) (made : List Scaling) : Type 0 where
+record Steps (t : ValueTable) (i : ℕ) (before : List PlanRecord) (all : List Record) (made : List PlanRecord) : Type 0 where
   size : length made ≡ length all
-  each : (k : ℕ) → k < length all → record_form t (i + k) (made_names (before ++ take k made)) (record_at all k) ≡ Ok (scaling_at made k)
+  each : (k : ℕ) → k < length all → record_form t (i + k) (made_names (before ++ take k made)) (record_at all k) ≡ Ok (plan_record_at made k)
 
 -- the record is read into that scaling; all but the record's place and plan is left as it is
-abbrev Reads : ValueTable → Record → Scaling → ℕ → List Scaling → Type 0
+abbrev Reads : ValueTable → Record → PlanRecord → ℕ → List PlanRecord → Type 0
 Reads t fields s i plan = record_form t i (made_names plan) fields ≡ Ok s
 
-moved : (t : ValueTable) (fields : Record) (s : Scaling) (i j : ℕ) (one two : List Scaling) → i ≡ j → one ≡ two → Reads t fields s i one
+moved : (t : ValueTable) (fields : Record) (s : PlanRecord) (i j : ℕ) (one two : List PlanRecord) → i ≡ j → one ≡ two → Reads t fields s i one
     → Reads t fields s j two
 moved t fields s i j one two places plans reads =
     subst (λ (n : ℕ). Reads t fields s n two) places (subst (Reads t fields s i) plans reads)
 
 module _ (t : ValueTable) where
-  steps : (i : ℕ) (before : List Scaling) (all : List Record) (plan : List Scaling) → records_form t i before all ≡ Ok plan
-      → (made : List Scaling) × (plan ≡ before ++ made) × Steps t i before all made
+  steps : (i : ℕ) (before : List PlanRecord) (all : List Record) (plan : List PlanRecord) → records_form t i before all ≡ Ok plan
+      → (made : List PlanRecord) × (plan ≡ before ++ made) × Steps t i before all made
   steps i before [] plan is =
       let same : before ≡ plan = same-ok _ before plan refl is in
       ([], sym same ∙ sym (append-nil before), record { size = refl; each = λ k below. absurd (omega arith) })
@@ -44,17 +44,17 @@ module _ (t : ValueTable) where
         )
   ]
     where
-      each : (s : Scaling) (made : List Scaling) → Reads t fields s i before
-          → ((k : ℕ) → k < length all → Reads t (record_at all k) (scaling_at made k) (i + 1 + k) ((before ++ s ∷ []) ++ take k made))
+      each : (s : PlanRecord) (made : List PlanRecord) → Reads t fields s i before
+          → ((k : ℕ) → k < length all → Reads t (record_at all k) (plan_record_at made k) (i + 1 + k) ((before ++ s ∷ []) ++ take k made))
           → (k : ℕ) → k < suc (length all)
-          → Reads t (record_at (fields ∷ all) k) (scaling_at (s ∷ made) k) (i + k) (before ++ take k (s ∷ made))
+          → Reads t (record_at (fields ∷ all) k) (plan_record_at (s ∷ made) k) (i + k) (before ++ take k (s ∷ made))
       each s made first rest zero below =
           moved t fields s i (i + 0) before (before ++ []) (omega arith) (sym (append-nil before)) first
       each s made first rest (suc k) below =
-          moved t (record_at all k) (scaling_at made k) (i + 1 + k) (i + suc k) _ (before ++ s ∷ take k made) (omega arith)
+          moved t (record_at all k) (plan_record_at made k) (i + 1 + k) (i + suc k) _ (before ++ s ∷ take k made) (omega arith)
           (append_assoc before (s ∷ []) (take k made)) (rest k (omega arith))
 
-  back : (i : ℕ) (before : List Scaling) (all : List Record) (made : List Scaling) → Steps t i before all made
+  back : (i : ℕ) (before : List PlanRecord) (all : List Record) (made : List PlanRecord) → Steps t i before all made
       → records_form t i before all ≡ Ok (before ++ made)
   back i before [] [] of = ap Ok (sym (append-nil before))
   back i before [] (s ∷ made) of = absurd (omega (arith, of.size))
@@ -66,15 +66,15 @@ module _ (t : ValueTable) where
       back (i + 1) (before ++ s ∷ []) all made (record { size = omega (arith, of.size); each = later }) in
       rw first (rest ∙ ap Ok (append_assoc before (s ∷ []) made))
     where
-      later : (k : ℕ) → k < length all → Reads t (record_at all k) (scaling_at made k) (i + 1 + k) ((before ++ s ∷ []) ++ take k made)
+      later : (k : ℕ) → k < length all → Reads t (record_at all k) (plan_record_at made k) (i + 1 + k) ((before ++ s ∷ []) ++ take k made)
       later k below =
-          moved t (record_at all k) (scaling_at made k) (i + suc k) (i + 1 + k) (before ++ s ∷ take k made) _ (omega arith)
+          moved t (record_at all k) (plan_record_at made k) (i + suc k) (i + 1 + k) (before ++ s ∷ take k made) _ (omega arith)
           (sym (append_assoc before (s ∷ []) (take k made))) (of.each (suc k) (omega arith))
 
   -- ---- plans
 
   module _ (named : EachName t.attributes) where
-    pub plan-made : (all : List Record) (plan : List Scaling) → (records_form t 1 [] all ≡ Ok plan) ↔ MakePlan t all plan
+    pub plan-made : (all : List Record) (plan : List PlanRecord) → (records_form t 1 [] all ≡ Ok plan) ↔ MakePlan t all plan
     plan-made all plan = (there, here)
       where
         there : records_form t 1 [] all ≡ Ok plan → MakePlan t all plan
@@ -83,31 +83,31 @@ module _ (t : ValueTable) where
             subst (MakePlan t all) (sym one.1) (record {
               size = one.2.size;
               each = λ k below.
-                  (record-made t (k + 1) (take k one.0) (record_at all k) named (scaling_at one.0 k)).0
-                  (moved t (record_at all k) (scaling_at one.0 k) (1 + k) (k + 1) (take k one.0) _ (omega arith) refl (one.2.each k below));
+                  (record-made t (k + 1) (take k one.0) (record_at all k) named (plan_record_at one.0 k)).0
+                  (moved t (record_at all k) (plan_record_at one.0 k) (1 + k) (k + 1) (take k one.0) _ (omega arith) refl (one.2.each k below));
             })
 
         here : MakePlan t all plan → records_form t 1 [] all ≡ Ok plan
         here of = back 1 [] all plan (record {
           size = of.size;
           each = λ k below.
-              moved t (record_at all k) (scaling_at plan k) (k + 1) (1 + k) (take k plan) _ (omega arith) refl
-              ((record-made t (k + 1) (take k plan) (record_at all k) named (scaling_at plan k)).1 (of.each k below));
+              moved t (record_at all k) (plan_record_at plan k) (k + 1) (1 + k) (take k plan) _ (omega arith) refl
+              ((record-made t (k + 1) (take k plan) (record_at all k) named (plan_record_at plan k)).1 (of.each k below));
         })
 
     -- ---- refusals
 
     -- records from record i on, behind these scalings, are refused: the first at fault decides
-    record FirstRefused (i : ℕ) (before : List Scaling) (all : List Record) (e : PlanFault) : Type 0 where
+    record FirstRefused (i : ℕ) (before : List PlanRecord) (all : List Record) (e : PlanFault) : Type 0 where
       front : List Record
       fields : Record
       rest : List Record
-      plan : List Scaling
+      plan : List PlanRecord
       whole : all ≡ front ++ fields ∷ rest
       made : records_form t i before front ≡ Ok plan
       faulty : record_form t (i + length front) (made_names plan) fields ≡ Err e
 
-    first-refused : (i : ℕ) (before : List Scaling) (all : List Record) (e : PlanFault) → records_form t i before all ≡ Err e
+    first-refused : (i : ℕ) (before : List PlanRecord) (all : List Record) (e : PlanFault) → records_form t i before all ≡ Err e
         → FirstRefused i before all e
     first-refused i before [] e is = absurd (ok-err _ before e refl is)
     first-refused i before (fields ∷ records) e is = elim (cases-Result (record_form t i (made_names before) fields)) [
@@ -139,7 +139,7 @@ module _ (t : ValueTable) where
           }
     ]
 
-    refused-back : (i : ℕ) (before : List Scaling) (front : List Record) (fields : Record) (rest : List Record) (plan : List Scaling)
+    refused-back : (i : ℕ) (before : List PlanRecord) (front : List Record) (fields : Record) (rest : List Record) (plan : List PlanRecord)
         (e : PlanFault) → records_form t i before front ≡ Ok plan → record_form t (i + length front) (made_names plan) fields ≡ Err e
         → records_form t i before (front ++ fields ∷ rest) ≡ Err e
     refused-back i before [] fields rest plan e made faulty =
@@ -147,7 +147,7 @@ module _ (t : ValueTable) where
         let here : i + 0 ≡ i = omega arith in
         let first : record_form t i (made_names before) fields ≡ Err e =
         subst (λ (k : ℕ). record_form t k (made_names before) fields ≡ Err e) here
-        (subst (λ (p : List Scaling). record_form t (i + 0) (made_names p) fields ≡ Err e) (sym same) faulty) in
+        (subst (λ (p : List PlanRecord). record_form t (i + 0) (made_names p) fields ≡ Err e) (sym same) faulty) in
         rw first refl
     refused-back i before (one ∷ front) fields rest plan e made faulty = elim (cases-Result (record_form t i (made_names before) one)) [
       | inl bad ↦ absurd (ok-err _ plan bad.0 made (rw bad.1 refl))

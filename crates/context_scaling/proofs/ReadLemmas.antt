@@ -21,7 +21,7 @@ use Rattle.fca_model.specs.Tables.{Text}
 use Rattle.fca_model.specs.Names.{name_fault}
 use Rattle.context_table.specs.Table.{first_repeat}
 use Rattle.value_tables.specs.Values.{ObjectValues, ValueTable, column, no_object, value_at}
-use Rattle.context_scaling.specs.Scaling.{Fits, FitsBehind, Scaling, is_scalable, made_names, made_name, names_of}
+use Rattle.context_scaling.specs.Scaling.{Fits, FitsBehind, PlanRecord, is_scalable, made_names, made_name, names_of}
 use Rattle.context_scaling.specs.declared.scales.Kind.{Kind}
 
 -- ---- values of a column
@@ -46,7 +46,7 @@ module _ (k : Kind) (objects : List ObjectValues) (m g : ℕ) (below : g < lengt
 
 -- ---- plans that fit
 
-pub names_push : (plan : List Scaling) (s : Scaling) → made_names (plan ++ s ∷ []) ≡ made_names plan ++ names_of s
+pub names_push : (plan : List PlanRecord) (s : PlanRecord) → made_names (plan ++ s ∷ []) ≡ made_names plan ++ names_of s
 names_push [] s = append-nil (names_of s)
 names_push (x ∷ plan) s = ap (λ (ns : List Text). names_of x ++ ns) (names_push plan s)
     ∙ sym (append_assoc (names_of x) (made_names plan) (names_of s))
@@ -60,7 +60,7 @@ fits_none t = record {
   few = omega arith;
 }
 
-pub fits_push : (plan : List Scaling) (s : Scaling) (t : ValueTable) → Fits plan t → FitsBehind (made_names plan) t s
+pub fits_push : (plan : List PlanRecord) (s : PlanRecord) (t : ValueTable) → Fits plan t → FitsBehind (made_names plan) t s
     → Fits (plan ++ s ∷ []) t
 fits_push plan s t fits one =
     let all = names_push plan s in
@@ -109,7 +109,7 @@ pub names_more : (i : ℕ) (attribute : Text) (r : Relation) (j : ℕ) (seen : L
     → add_names i attribute r j seen (v ∷ values) ≡ add_names i attribute r (j + 1) (seen ++ name ∷ []) values
 names_more i attribute r j seen v values name is = rw is refl
 
-pub records_more : (t : ValueTable) (i : ℕ) (plan : List Scaling) (fields : Record) (records : List Record) (s : Scaling)
+pub records_more : (t : ValueTable) (i : ℕ) (plan : List PlanRecord) (fields : Record) (records : List Record) (s : PlanRecord)
     → record_form t i (made_names plan) fields ≡ Ok s
     → records_form t i plan (fields ∷ records) ≡ records_form t (i + 1) (plan ++ s ∷ []) records
 records_more t i plan fields records s is = rw is refl

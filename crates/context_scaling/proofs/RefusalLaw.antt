@@ -12,10 +12,10 @@ use Rattle.value_tables.specs.Form.{first_bad, is_field}
 use Rattle.text_pieces.specs.Telling.{then, unless}
 use Rattle.value_tables.specs.Values.{ValueTable, column, object_at, value_at}
 use Rattle.context_scaling.specs.PlanForm.{few_names, kind_form, kind_of, names_form, or_fault, place_of, record_form}
-use Rattle.context_scaling.specs.PlanForm.{scale_value, scaling_form, scaling_of, value_kind}
+use Rattle.context_scaling.specs.PlanForm.{scale_value, plan_record_form, plan_record_of, value_kind}
 use Rattle.context_scaling.specs.Refusals.{HasBadName, HasBadScale, HasBadValue, IsAtFault, IsFaultless, IsFirstFault, IsRecordOf}
-use Rattle.context_scaling.specs.Refusals.{NamesNoKind, field_at, is_new_name, turn_of}
-use Rattle.context_scaling.specs.Scaling.{Scaling, is_scalable, made_names, names_of}
+use Rattle.context_scaling.specs.Refusals.{NamesNoKind, numbered_field, is_new_name, turn_of}
+use Rattle.context_scaling.specs.Scaling.{PlanRecord, is_scalable, made_names, names_of}
 use Rattle.context_scaling.specs.declared.scales.Kind.{Kind}
 use Rattle.context_scaling.specs.declared.scales.ScaleValue.{ScaleValue}
 use Rattle.context_scaling.specs.declared.PlanFault.{PlanFault}
@@ -37,19 +37,19 @@ only-first P a b at_a at_b before_a before_b = elim (cases_lt a b) [
 
 one-scale : (k : Kind) (fields : Record) (a b : ℕ) → HasBadScale k fields a → HasBadScale k fields b → a ≡ b
 one-scale k fields a b one two =
-    let P : ℕ → Type 0 = λ j. (3 ≤ j) × (is_field (value_kind k) (field_at fields j) ≡ false) in
+    let P : ℕ → Type 0 = λ j. (3 ≤ j) × (is_field (value_kind k) (numbered_field fields j) ≡ false) in
     only-first P a b (one.behind, one.bad) (two.behind, two.bad)
     (λ j less at. false≢true (sym at.1 ∙ one.first j at.0 less))
     (λ j less at. false≢true (sym at.1 ∙ two.first j at.0 less))
 
-one-value : (t : ValueTable) (s : Scaling) (a b : ℕ) → HasBadValue t s a → HasBadValue t s b → a ≡ b
+one-value : (t : ValueTable) (s : PlanRecord) (a b : ℕ) → HasBadValue t s a → HasBadValue t s b → a ≡ b
 one-value t s a b one two =
     let P : ℕ → Type 0 = λ r. is_scalable s.kind (value_at s.place (object_at t r)) ≡ false in
     only-first P a b (unscalable s.kind _ one.numbers one.some one.bad) (unscalable s.kind _ two.numbers two.some two.bad)
     (λ r less at. false≢true (sym at ∙ one.first r less))
     (λ r less at. false≢true (sym at ∙ two.first r less))
 
-one-name : (seen : List Text) (s : Scaling) (a b : ℕ) → HasBadName seen s a → HasBadName seen s b → a ≡ b
+one-name : (seen : List Text) (s : PlanRecord) (a b : ℕ) → HasBadName seen s a → HasBadName seen s b → a ≡ b
 one-name seen s a b one two =
     let P : ℕ → Type 0 = λ p. is_new_name seen (names_of s) p ≡ false in
     let same : one.place ≡ two.place = only-first P one.place two.place one.bad two.bad
@@ -58,19 +58,19 @@ one-name seen s a b one two =
     one.field ∙ ap (λ (p : ℕ). p % length s.values + 3) same ∙ sym two.field
 
 -- the scaling of these parts
-abbrev of_parts : Kind → Text → ℕ → List ScaleValue → Scaling
+abbrev of_parts : Kind → Text → ℕ → List ScaleValue → PlanRecord
 of_parts k attribute place values = record { kind = k; attribute = attribute; place = place; values = values }
 
-scaling-ext : (s r : Scaling) → s.kind ≡ r.kind → s.attribute ≡ r.attribute → s.place ≡ r.place → s.values ≡ r.values → s ≡ r
+scaling-ext : (s r : PlanRecord) → s.kind ≡ r.kind → s.attribute ≡ r.attribute → s.place ≡ r.place → s.values ≡ r.values → s ≡ r
 scaling-ext s r kinds attributes places values =
     let same : of_parts s.kind s.attribute s.place s.values ≡ of_parts r.kind r.attribute r.place r.values = cc in
     same
 
-one-scaling : (t : ValueTable) (fields : Record) (s r : Scaling) → IsRecordOf t s fields → IsRecordOf t r fields → s ≡ r
+one-scaling : (t : ValueTable) (fields : Record) (s r : PlanRecord) → IsRecordOf t s fields → IsRecordOf t r fields → s ≡ r
 one-scaling t fields s r one two =
     let kinds : s.kind ≡ r.kind = same-some _ s.kind r.kind one.kind two.kind in
     let attributes : s.attribute ≡ r.attribute = one.attribute ∙ sym two.attribute in
-    let P : ℕ → Type 0 = λ m. slice_get t.attributes m ≡ Some (field_at fields 2) in
+    let P : ℕ → Type 0 = λ m. slice_get t.attributes m ≡ Some (numbered_field fields 2) in
     let places : s.place ≡ r.place = only-first P s.place r.place (one.place ∙ ap Some one.attribute) (two.place ∙ ap Some two.attribute)
     (λ m less at. one.first m less (at ∙ ap Some (sym one.attribute)))
     (λ m less at. two.first m less (at ∙ ap Some (sym two.attribute))) in
@@ -80,24 +80,24 @@ one-scaling t fields s r one two =
 -- ---- the form refuses what is at fault
 
 -- this answer is a refusal for that, or for what a record is tried for before
-record Refuses (f : PlanFault) (r : Result Scaling PlanFault) : Type 0 where
+record Refuses (f : PlanFault) (r : Result PlanRecord PlanFault) : Type 0 where
   told : PlanFault
   is : r ≡ Err told
   by : (told ≡ f) ⊎ (turn_of told < turn_of f)
 
-module _ (t : ValueTable) (i : ℕ) (plan : List Scaling) (fields : Record) (named : EachName t.attributes) where
+module _ (t : ValueTable) (i : ℕ) (plan : List PlanRecord) (fields : Record) (named : EachName t.attributes) where
   abbrev seen : List Text
   seen = made_names plan
 
   -- the answers from each try on
-  abbrev from_place : Kind → Result Scaling PlanFault
+  abbrev from_place : Kind → Result PlanRecord PlanFault
   from_place k = then (or_fault (fault.UnknownAttribute i) (place_of t (get_or fields 1 [])))
-      (λ place. scaling_form t i seen fields (scaling_of k place fields))
+      (λ place. plan_record_form t i seen fields (plan_record_of k place fields))
 
-  abbrev from_names : Scaling → Result Scaling PlanFault
+  abbrev from_names : PlanRecord → Result PlanRecord PlanFault
   from_names s = then (names_form i s.kind s.attribute seen s.values) (λ names. few_names i names s)
 
-  abbrev from_values : Scaling → Result Scaling PlanFault
+  abbrev from_values : PlanRecord → Result PlanRecord PlanFault
   from_values s = unless (position_from (λ text. not (is_scalable s.kind text)) 0 (column t s.place)) (fault.BadValue i) (from_names s)
 
   past_kind : (f : PlanFault) → 1 < turn_of f → ((k : Kind) → kind_form i fields ≡ Ok k → Refuses f (from_place k))
@@ -111,16 +111,16 @@ module _ (t : ValueTable) (i : ℕ) (plan : List Scaling) (fields : Record) (nam
   ]
 
   past_place : (f : PlanFault) (k : Kind) → 2 < turn_of f
-      → ((place : ℕ) → place_of t (get_or fields 1 []) ≡ Some place → Refuses f (scaling_form t i seen fields (scaling_of k place fields)))
+      → ((place : ℕ) → place_of t (get_or fields 1 []) ≡ Some place → Refuses f (plan_record_form t i seen fields (plan_record_of k place fields)))
       → Refuses f (from_place k)
   past_place f k later next = by (place_of t (get_or fields 1 [])) refl
     where
       by : (o : Option ℕ) → place_of t (get_or fields 1 []) ≡ o → Refuses f (then (or_fault (fault.UnknownAttribute i) o)
-          (λ place. scaling_form t i seen fields (scaling_of k place fields)))
+          (λ place. plan_record_form t i seen fields (plan_record_of k place fields)))
       by None none = record { told = fault.UnknownAttribute i; is = refl; by = inr later }
       by (Some place) found = next place found
 
-  scaling-Ok : (s r : Scaling) → scaling_form t i seen fields s ≡ Ok r → s ≡ r
+  scaling-Ok : (s r : PlanRecord) → plan_record_form t i seen fields s ≡ Ok r → s ≡ r
   scaling-Ok s r is = by_scale (first_bad (value_kind s.kind) 3 (drop 2 fields)) is
     where
       by_many : (names : List Text) → few_names i names s ≡ Ok r → s ≡ r
@@ -142,7 +142,7 @@ module _ (t : ValueTable) (i : ℕ) (plan : List Scaling) (fields : Record) (nam
       by_scale None is = by_value (position_from (λ text. not (is_scalable s.kind text)) 0 (column t s.place)) is
 
   record_of : (k : Kind) (place : ℕ) → kind_form i fields ≡ Ok k → place_of t (get_or fields 1 []) ≡ Some place
-      → IsRecordOf t (scaling_of k place fields) fields
+      → IsRecordOf t (plan_record_of k place fields) fields
   record_of k place form found = record {
     kind = kind-Ok i fields k form;
     attribute = refl;
@@ -151,14 +151,14 @@ module _ (t : ValueTable) (i : ℕ) (plan : List Scaling) (fields : Record) (nam
     values = refl;
   }
 
-  module _ (s : Scaling) (of : IsRecordOf t s fields) where
-    past_names_of : (f : PlanFault) → 2 < turn_of f → Refuses f (scaling_form t i seen fields s) → Refuses f (record_form t i seen fields)
+  module _ (s : PlanRecord) (of : IsRecordOf t s fields) where
+    past_names_of : (f : PlanFault) → 2 < turn_of f → Refuses f (plan_record_form t i seen fields s) → Refuses f (record_form t i seen fields)
     past_names_of f later next =
         past_kind f (omega (arith, later)) (λ k form. past_place f k later (λ place found.
-        let same : s ≡ scaling_of k place fields = one-scaling t fields s _ of (record_of k place form found) in
-        subst (λ (r : Scaling). Refuses f (scaling_form t i seen fields r)) same next))
+        let same : s ≡ plan_record_of k place fields = one-scaling t fields s _ of (record_of k place form found) in
+        subst (λ (r : PlanRecord). Refuses f (plan_record_form t i seen fields r)) same next))
 
-    past_scale : (f : PlanFault) → 3 < turn_of f → Refuses f (from_values s) → Refuses f (scaling_form t i seen fields s)
+    past_scale : (f : PlanFault) → 3 < turn_of f → Refuses f (from_values s) → Refuses f (plan_record_form t i seen fields s)
     past_scale f later next = by (first_bad (value_kind s.kind) 3 (drop 2 fields))
       where
         by : (o : Option ℕ) → Refuses f (unless o (fault.BadScale i) (from_values s))
@@ -201,7 +201,7 @@ module _ (t : ValueTable) (i : ℕ) (plan : List Scaling) (fields : Record) (nam
       past_kind (fault.UnknownAttribute k) (omega arith) (λ kind form. by kind (place_of t (get_or fields 1 [])) refl)
     where
       by : (kind : Kind) (o : Option ℕ) → place_of t (get_or fields 1 []) ≡ o → Refuses (fault.UnknownAttribute k)
-          (then (or_fault (fault.UnknownAttribute i) o) (λ place. scaling_form t i seen fields (scaling_of kind place fields)))
+          (then (or_fault (fault.UnknownAttribute i) o) (λ place. plan_record_form t i seen fields (plan_record_of kind place fields)))
       by kind None none =
           record { told = fault.UnknownAttribute i; is = refl; by = inl (ap fault.UnknownAttribute (sym at.0)) }
       by kind (Some place) found = absurd (at.1 place (place-Some t (get_or fields 1 []) place found))
@@ -278,21 +278,21 @@ module _ (t : ValueTable) (i : ℕ) (plan : List Scaling) (fields : Record) (nam
             | inr before ↦ absurd (only.first one.told before (record-fault t i plan fields one.told named one.is))
           ]
 
-  record-Ok : (s : Scaling) → record_form t i seen fields ≡ Ok s → IsRecordOf t s fields
+  record-Ok : (s : PlanRecord) → record_form t i seen fields ≡ Ok s → IsRecordOf t s fields
   record-Ok s is = elim (cases-Result (kind_form i fields)) [
     | inl bad ↦ absurd (ok-err _ s bad.0 is (rw bad.1 refl))
     | inr good ↦ by good.0 good.1 (place_of t (get_or fields 1 [])) refl (rw good.1 at is)
   ]
     where
       by : (k : Kind) → kind_form i fields ≡ Ok k → (o : Option ℕ) → place_of t (get_or fields 1 []) ≡ o
-          → then (or_fault (fault.UnknownAttribute i) o) (λ place. scaling_form t i seen fields (scaling_of k place fields)) ≡ Ok s
+          → then (or_fault (fault.UnknownAttribute i) o) (λ place. plan_record_form t i seen fields (plan_record_of k place fields)) ≡ Ok s
           → IsRecordOf t s fields
       by k form None none is = absurd (ok-err _ s (fault.UnknownAttribute i) is refl)
       by k form (Some place) found is =
-          let of : IsRecordOf t (scaling_of k place fields) fields = record_of k place form found in
-          subst (λ (r : Scaling). IsRecordOf t r fields) (scaling-Ok (scaling_of k place fields) s is) of
+          let of : IsRecordOf t (plan_record_of k place fields) fields = record_of k place form found in
+          subst (λ (r : PlanRecord). IsRecordOf t r fields) (scaling-Ok (plan_record_of k place fields) s is) of
 
-  pub record-made : (s : Scaling) → (record_form t i seen fields ≡ Ok s) ↔ IsFaultless t i plan fields s
+  pub record-made : (s : PlanRecord) → (record_form t i seen fields ≡ Ok s) ↔ IsFaultless t i plan fields s
   record-made s = (λ is. record { named = record-Ok s is; faultless = none is }, back)
     where
       none : record_form t i seen fields ≡ Ok s → (e : PlanFault) → IsAtFault t i plan fields e → ⊥

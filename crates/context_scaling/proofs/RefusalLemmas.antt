@@ -24,10 +24,10 @@ use Rattle.text_pieces.specs.Telling.{then, unless}
 use Rattle.value_tables.specs.Values.{ValueTable, column, no_object, object_at, value_at}
 use Rattle.value_tables.specs.declared.fields.FieldKind.{FieldKind}
 use Rattle.context_scaling.specs.PlanForm.{add_names, few_names, kind_form, kind_of, names_form, or_fault, place_of}
-use Rattle.context_scaling.specs.PlanForm.{record_form, scaling_form, scaling_of, value_kind}
+use Rattle.context_scaling.specs.PlanForm.{record_form, plan_record_form, plan_record_of, value_kind}
 use Rattle.context_scaling.specs.Refusals.{HasBadName, HasBadScale, HasBadValue, IsAtFault, IsRecordOf}
-use Rattle.context_scaling.specs.Refusals.{NamesNoKind, field_at, is_new_name}
-use Rattle.context_scaling.specs.Scaling.{Scaling, is_scalable, made_names, made_name, names_of}
+use Rattle.context_scaling.specs.Refusals.{NamesNoKind, numbered_field, is_new_name}
+use Rattle.context_scaling.specs.Scaling.{PlanRecord, is_scalable, made_names, made_name, names_of}
 use Rattle.context_scaling.specs.declared.scales.Kind.{Kind}
 use Rattle.context_scaling.specs.declared.scales.Kind.TheVariants as kind
 use Rattle.context_scaling.specs.declared.scales.Relation.{Relation}
@@ -281,13 +281,13 @@ new-right seen (name ∷ lows) highs p =
 
 -- ---- the names of a record
 
-pub record NamesFault (i : ℕ) (seen : List Text) (s : Scaling) (e : PlanFault) : Type 0 where
+pub record NamesFault (i : ℕ) (seen : List Text) (s : PlanRecord) (e : PlanFault) : Type 0 where
   pub field : ℕ
   pub fault_is : e ≡ fault.BadName i field
   pub has : HasBadName seen s field
 
 module _ (i place : ℕ) (attribute : Text) (values : List ScaleValue) where
-  abbrev pub of_kind : Kind → Scaling
+  abbrev pub of_kind : Kind → PlanRecord
   of_kind k = record { kind = k; attribute = attribute; place = place; values = values }
 
   of_one : (r : Relation) (k : Kind) (seen : List Text) (e : PlanFault) → names_of (of_kind k) ≡ map (made_name attribute r) values
@@ -420,7 +420,7 @@ module _ (i place : ℕ) (attribute : Text) (values : List ScaleValue) where
 
 -- ---- scale values and values
 
-scale-field : (fields : Record) (q : ℕ) → 3 ≤ q → get_or (drop 2 fields) (q - 3) [] ≡ field_at fields q
+scale-field : (fields : Record) (q : ℕ) → 3 ≤ q → get_or (drop 2 fields) (q - 3) [] ≡ numbered_field fields q
 scale-field fields q from =
     let at : 2 + (q - 3) ≡ q - 1 = omega arith in get_or-drop 2 fields (q - 3) [] ∙ ap (λ (n : ℕ). get_or fields n []) at
 
@@ -471,7 +471,7 @@ object-value : (t : ValueTable) (place q : ℕ) → q < length t.objects → get
 object-value t place q below = let at : q - 0 ≡ q = omega arith in
     ap (λ (n : ℕ). get_or (column t place) n []) at ∙ get_or-map (value_at place) t.objects q no_object [] below
 
-pub bad-value : (t : ValueTable) (s : Scaling) (r : ℕ) → position_from (λ text. not (is_scalable s.kind text)) 0 (column t s.place) ≡ Some r
+pub bad-value : (t : ValueTable) (s : PlanRecord) (r : ℕ) → position_from (λ text. not (is_scalable s.kind text)) 0 (column t s.place) ≡ Some r
     → HasBadValue t s r
 bad-value t s r is =
     let first = first-Some (λ text. not (is_scalable s.kind text)) 0 r (column t s.place) is in
@@ -497,7 +497,7 @@ unscalable kind.Nominal (byte ∷ text) numbers some none = absurd (numbers refl
 unscalable kind.Ordinal (byte ∷ text) numbers some none = no_value byte text none
 unscalable kind.Interordinal (byte ∷ text) numbers some none = no_value byte text none
 
-pub no_bad-value : (t : ValueTable) (s : Scaling) (r : ℕ)
+pub no_bad-value : (t : ValueTable) (s : PlanRecord) (r : ℕ)
     → position_from (λ text. not (is_scalable s.kind text)) 0 (column t s.place) ≡ None → HasBadValue t s r → ⊥
 no_bad-value t s r none has =
     let below : r < 0 + length (column t s.place) = omega (arith, has.inside, length-map t.objects (value_at s.place)) in
@@ -507,14 +507,14 @@ no_bad-value t s r none has =
 
 -- ---- records
 
-module _ (t : ValueTable) (i : ℕ) (plan : List Scaling) (fields : Record) (e : PlanFault) where
+module _ (t : ValueTable) (i : ℕ) (plan : List PlanRecord) (fields : Record) (e : PlanFault) where
   abbrev At : Type 0
   At = IsAtFault t i plan fields e
 
   because : (other : PlanFault) → other ≡ e → IsAtFault t i plan fields other → At
   because other same at = subst (IsAtFault t i plan fields) same at
 
-  module _ (s : Scaling) (of : IsRecordOf t s fields) where
+  module _ (s : PlanRecord) (of : IsRecordOf t s fields) where
     few-fault : (names : List Text) → names ≡ made_names plan ++ names_of s → few_names i names s ≡ Err e → At
     few-fault names all is = elim (cases_Bool (nat_lt MAX_ATTRIBUTES (length names))) [
       | inl many ↦
@@ -550,13 +550,13 @@ module _ (t : ValueTable) (i : ℕ) (plan : List Scaling) (fields : Record) (e :
     by_scale None found is = by_value (position_from (λ text. not (is_scalable s.kind text)) 0 (column t s.place)) refl is
 
   by_place : (k : Kind) (o : Option ℕ) → EachName t.attributes → kind_of (get_or fields 0 []) ≡ Some k → place_of t (get_or fields 1 []) ≡ o
-      → then (or_fault (fault.UnknownAttribute i) o) (λ place. scaling_form t i (made_names plan) fields (scaling_of k place fields))
+      → then (or_fault (fault.UnknownAttribute i) o) (λ place. plan_record_form t i (made_names plan) fields (plan_record_of k place fields))
       ≡ Err e → At
   by_place k None named kind_is found is =
       let same : fault.UnknownAttribute i ≡ e = same-fault _ (fault.UnknownAttribute i) e refl is in
       because (fault.UnknownAttribute i) same (refl, place-None t (get_or fields 1 []) named found)
   by_place k (Some place) named kind_is found is =
-      let s : Scaling = scaling_of k place fields in
+      let s : PlanRecord = plan_record_of k place fields in
       let of : IsRecordOf t s fields = record {
         kind = kind_is;
         attribute = refl;
@@ -568,7 +568,7 @@ module _ (t : ValueTable) (i : ℕ) (plan : List Scaling) (fields : Record) (e :
 
   by_kind : (r : Result Kind PlanFault) → EachName t.attributes → kind_form i fields ≡ r
       → then r (λ k. then (or_fault (fault.UnknownAttribute i) (place_of t (get_or fields 1 [])))
-      (λ place. scaling_form t i (made_names plan) fields (scaling_of k place fields))) ≡ Err e → At
+      (λ place. plan_record_form t i (made_names plan) fields (plan_record_of k place fields))) ≡ Err e → At
   by_kind (Err other) named form is =
       let same : other ≡ e = same-fault _ other e refl is in
       let one = kind-fault i fields other form in

@@ -6,7 +6,7 @@ use Rattle.std.proofs.lemmas.List.Folds.{length-flat_map-take}
 use Rattle.context_scaling.specs.declared.scales.Relation.TheVariants as relation
 use Rattle.fca_model.specs.Tables.{Text}
 use Rattle.value_tables.specs.Values.{ObjectValues, value_at}
-use Rattle.context_scaling.specs.Scaling.{Scaling, each_relation, made_names, made_name, names_of, scale_row, object_row, stands}
+use Rattle.context_scaling.specs.Scaling.{PlanRecord, each_relation, made_names, made_name, names_of, scale_row, object_row, stands}
 use Rattle.context_scaling.specs.declared.scales.Kind.{Kind}
 use Rattle.context_scaling.specs.declared.scales.Kind.TheVariants as kind
 use Rattle.context_scaling.specs.declared.scales.Relation.{Relation}
@@ -19,12 +19,12 @@ each_relation_length kind.Nominal f g same = same _
 each_relation_length kind.Ordinal f g same = same _
 each_relation_length kind.Interordinal f g same = length-append _ _ ∙ ap₂ ◌+◌ (same _) (same _) ∙ sym (length-append _ _)
 
-pub scale_length : (s : Scaling) (text : Text) → length (scale_row s text) ≡ length (names_of s)
+pub scale_length : (s : PlanRecord) (text : Text) → length (scale_row s text) ≡ length (names_of s)
 scale_length s text =
     each_relation_length s.kind (λ r. map (stands text r) s.values) (λ r. map (made_name s.attribute r) s.values)
     (λ r. length-map s.values (stands text r) ∙ sym (length-map s.values (made_name s.attribute r)))
 
-pub row_length : (plan : List Scaling) (object : ObjectValues) → length (object_row plan object) ≡ length (made_names plan)
+pub row_length : (plan : List PlanRecord) (object : ObjectValues) → length (object_row plan object) ≡ length (made_names plan)
 row_length [] object = refl
 row_length (s ∷ plan) object = length-append _ _ ∙ ap₂ ◌+◌ (scale_length s (value_at s.place object)) (row_length plan object)
     ∙ sym (length-append _ _)
@@ -40,13 +40,13 @@ values_few kind.Ordinal f n same = let e = same relation.AtMost in omega (arith,
 values_few kind.Interordinal f n same = let e = same relation.AtMost in
     omega (arith, e, length-append (f relation.AtMost) (f relation.AtLeast))
 
-pub values_names : (s : Scaling) → length s.values ≤ length (names_of s)
+pub values_names : (s : PlanRecord) → length s.values ≤ length (names_of s)
 values_names s = values_few s.kind (λ r. map (made_name s.attribute r) s.values) (length s.values)
     (λ r. length-map s.values (made_name s.attribute r))
 
 -- the names of a record stand within all
-pub names_within : (plan : List Scaling) (i : ℕ) (s : Scaling) → i < length plan → s ≡ get_or plan i s
+pub names_within : (plan : List PlanRecord) (i : ℕ) (s : PlanRecord) → i < length plan → s ≡ get_or plan i s
     → length (made_names (take i plan)) + length (names_of s) ≤ length (made_names plan)
 names_within plan i s below is =
-    let P : Scaling → Type 0 = λ x. length (made_names (take i plan)) + length (names_of x) ≤ length (made_names plan) in
+    let P : PlanRecord → Type 0 = λ x. length (made_names (take i plan)) + length (names_of x) ≤ length (made_names plan) in
     subst P (sym is) (length-flat_map-take names_of plan i s below)

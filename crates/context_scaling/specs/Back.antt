@@ -7,7 +7,7 @@ use Rattle.std.specs.Prelude.{length, take, drop, slice_get, slice_index_or, ⊤
 use Rattle.fca_model.specs.Sets.{Set}
 use Rattle.fca_model.specs.Tables.{Text}
 use Rattle.value_tables.specs.Numbers.{number_of}
-use Rattle.context_scaling.specs.Scaling.{Scaling, made_names}
+use Rattle.context_scaling.specs.Scaling.{PlanRecord, made_names}
 use Rattle.context_scaling.specs.declared.scales.Kind.{Kind}
 use Rattle.context_scaling.specs.declared.scales.Kind.TheVariants as kind
 use Rattle.context_scaling.specs.declared.scales.Relation.{Relation}
@@ -72,20 +72,20 @@ back_by kind.Interordinal values marks = back_between (narrowest_bound relation.
     (narrowest_bound relation.AtMost marks values)
 
 -- a record of a plan that makes nothing, in place of one that is missing
-abbrev pub no_scaling : Scaling
-no_scaling = record { kind = kind.Nominal; attribute = []; place = 0; values = [] }
+abbrev pub no_plan_record : PlanRecord
+no_plan_record = record { kind = kind.Nominal; attribute = []; place = 0; values = [] }
 
 -- record k
-abbrev pub scaling_at : List Scaling → ℕ → Scaling
-scaling_at plan k = slice_index_or plan k no_scaling
+abbrev pub plan_record_at : List PlanRecord → ℕ → PlanRecord
+plan_record_at plan k = slice_index_or plan k no_plan_record
 
 -- the place at which the attributes of record k begin
-abbrev pub begin_of : List Scaling → ℕ → ℕ
+abbrev pub begin_of : List PlanRecord → ℕ → ℕ
 begin_of plan k = length (made_names (take k plan))
 
 -- what the row says by record k of the plan
-abbrev pub back_at : List Scaling → ℕ → Set → Back
-back_at plan k row = back_by (scaling_at plan k).kind (scaling_at plan k).values (drop (begin_of plan k) row)
+abbrev pub back_at : List PlanRecord → ℕ → Set → Back
+back_at plan k row = back_by (plan_record_at plan k).kind (plan_record_at plan k).values (drop (begin_of plan k) row)
 
 -- ---- the value comes back
 

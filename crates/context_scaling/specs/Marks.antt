@@ -3,7 +3,7 @@ use Rattle.std.specs.Prelude.{◌≡◌, ℕ, ◌-◌, false, ◌++◌, length, 
 use Rattle.fca_model.specs.Sets.{Set}
 
 -- the width, and the marks so far
-pub record Filling : Type 0 where
+pub record PartialRow : Type 0 where
   pub width : ℕ
   pub marks : Set
 

@@ -13,7 +13,7 @@ use Rattle.value_tables.specs.Values.{ValueTable, column}
 use Rattle.value_tables.specs.Form.{first_bad, is_name}
 use Rattle.value_tables.specs.declared.fields.FieldKind.{FieldKind}
 use Rattle.value_tables.specs.declared.fields.FieldKind.TheVariants as field
-use Rattle.context_scaling.specs.Scaling.{Scaling, is_scalable, made_names, made_name}
+use Rattle.context_scaling.specs.Scaling.{PlanRecord, is_scalable, made_names, made_name}
 use Rattle.context_scaling.specs.declared.scales.Kind.{Kind}
 use Rattle.context_scaling.specs.declared.scales.Kind.TheVariants as kind
 use Rattle.context_scaling.specs.declared.scales.Relation.{Relation}
@@ -59,8 +59,8 @@ scale_value kind.Nominal text = value.Text text
 scale_value kind.Ordinal text = value.Number (unwrap_or (number_of text) (pos 0))
 scale_value kind.Interordinal text = value.Number (unwrap_or (number_of text) (pos 0))
 
-abbrev pub scaling_of : Kind → ℕ → Record → Scaling
-scaling_of kind place fields = record {
+abbrev pub plan_record_of : Kind → ℕ → Record → PlanRecord
+plan_record_of kind place fields = record {
   kind = kind;
   attribute = slice_index_or fields 1 [];
   place = place;
@@ -88,30 +88,30 @@ names_form i kind.Interordinal attribute seen values =
 
 -- ---- records
 
-abbrev pub few_names : ℕ → List Text → Scaling → Result Scaling PlanFault
+abbrev pub few_names : ℕ → List Text → PlanRecord → Result PlanRecord PlanFault
 few_names i names s = cond (nat_lt MAX_ATTRIBUTES (length names)) (Err (fault.TooMany i)) (Ok s)
 
 -- record i with this kind and this attribute, after attributes with these names
-abbrev pub scaling_form : ValueTable → ℕ → List Text → Record → Scaling → Result Scaling PlanFault
-scaling_form t i seen fields s =
+abbrev pub plan_record_form : ValueTable → ℕ → List Text → Record → PlanRecord → Result PlanRecord PlanFault
+plan_record_form t i seen fields s =
     unless (first_bad (value_kind s.kind) 3 (drop 2 fields)) (fault.BadScale i)
     (unless (position_from (λ text. not (is_scalable s.kind text)) 0 (column t s.place)) (fault.BadValue i)
     (then (names_form i s.kind s.attribute seen s.values) (λ names. few_names i names s)))
 
 -- record i, after attributes with these names
-abbrev pub record_form : ValueTable → ℕ → List Text → Record → Result Scaling PlanFault
+abbrev pub record_form : ValueTable → ℕ → List Text → Record → Result PlanRecord PlanFault
 record_form t i seen fields =
     then (kind_form i fields) (λ kind.
     then (or_fault (fault.UnknownAttribute i) (place_of t (slice_index_or fields 1 []))) (λ place.
-    scaling_form t i seen fields (scaling_of kind place fields)))
+    plan_record_form t i seen fields (plan_record_of kind place fields)))
 
 -- the plan so far, and the records from record i on
-abbrev pub records_form : ValueTable → ℕ → List Scaling → List Record → Result (List Scaling) PlanFault
+abbrev pub records_form : ValueTable → ℕ → List PlanRecord → List Record → Result (List PlanRecord) PlanFault
 records_form t i plan [] = Ok plan
 records_form t i plan (fields ∷ records) = then (record_form t i (made_names plan) fields)
     (λ s. records_form t (i + 1) (plan ++ s ∷ []) records)
 
 -- the plan that the bytes of a file write for the table, or the first fault: bytes that are not UTF-8, then the first record at fault
-unfoldable pub plan_form : ValueTable → List ℕ → Result (List Scaling) PlanFault
+unfoldable pub plan_form : ValueTable → List ℕ → Result (List PlanRecord) PlanFault
 plan_form t bytes = cond (utf8_valid_len bytes == length bytes) (records_form t 1 [] (csv_records bytes))
     (Err (fault.NotUtf8 (utf8_valid_len bytes)))

@@ -11,9 +11,9 @@ use Rattle.csv_context.specs.Records.{Record}
 use Rattle.value_tables.specs.Form.{is_field, is_name}
 use Rattle.value_tables.specs.Numbers.{number_of}
 use Rattle.value_tables.specs.Values.{ValueTable, object_at, value_at}
-use Rattle.context_scaling.specs.Back.{scaling_at}
+use Rattle.context_scaling.specs.Back.{plan_record_at}
 use Rattle.context_scaling.specs.PlanForm.{kind_of, scale_value, value_kind}
-use Rattle.context_scaling.specs.Scaling.{Scaling, is_scalable, made_names, names_of}
+use Rattle.context_scaling.specs.Scaling.{PlanRecord, is_scalable, made_names, names_of}
 use Rattle.context_scaling.specs.declared.scales.Kind.{Kind}
 use Rattle.context_scaling.specs.declared.scales.Kind.TheVariants as kind
 use Rattle.context_scaling.specs.declared.PlanFault.{PlanFault}
@@ -24,21 +24,21 @@ abbrev pub record_at : List Record → ℕ → Record
 record_at records k = slice_index_or records k []
 
 -- field j of a record
-abbrev pub field_at : Record → ℕ → Text
-field_at fields j = slice_index_or fields (j - 1) []
+abbrev pub numbered_field : Record → ℕ → Text
+numbered_field fields j = slice_index_or fields (j - 1) []
 
 -- the record has fewer than three fields, or its first names no kind of scale
 abbrev pub NamesNoKind : Record → Type 0
-NamesNoKind fields = (length fields < 3) ⊎ (kind_of (field_at fields 1) ≡ None)
+NamesNoKind fields = (length fields < 3) ⊎ (kind_of (numbered_field fields 1) ≡ None)
 
 -- no attribute of the table has the name in field 2
 abbrev pub NamesNoAttribute : ValueTable → Record → Type 0
-NamesNoAttribute t fields = (m : ℕ) → slice_get t.attributes m ≢ Some (field_at fields 2)
+NamesNoAttribute t fields = (m : ℕ) → slice_get t.attributes m ≢ Some (numbered_field fields 2)
 
 -- the record names this kind, the first attribute of the table that has this name, and these scale values
-pub record IsRecordOf (t : ValueTable) (s : Scaling) (fields : Record) : Type 0 where
-  pub kind : kind_of (field_at fields 1) ≡ Some s.kind
-  pub attribute : s.attribute ≡ field_at fields 2
+pub record IsRecordOf (t : ValueTable) (s : PlanRecord) (fields : Record) : Type 0 where
+  pub kind : kind_of (numbered_field fields 1) ≡ Some s.kind
+  pub attribute : s.attribute ≡ numbered_field fields 2
   pub place : slice_get t.attributes s.place ≡ Some s.attribute
   pub first : (m : ℕ) → m < s.place → slice_get t.attributes m ≢ Some s.attribute
   pub values : s.values ≡ map (scale_value s.kind) (drop 2 fields)
@@ -47,11 +47,11 @@ pub record IsRecordOf (t : ValueTable) (s : Scaling) (fields : Record) : Type 0 
 pub record HasBadScale (kind : Kind) (fields : Record) (j : ℕ) : Type 0 where
   pub behind : 3 ≤ j
   pub inside : j ≤ length fields
-  pub bad : is_field (value_kind kind) (field_at fields j) ≡ false
-  pub first : (k : ℕ) → 3 ≤ k → k < j → is_field (value_kind kind) (field_at fields k) ≡ true
+  pub bad : is_field (value_kind kind) (numbered_field fields j) ≡ false
+  pub first : (k : ℕ) → 3 ≤ k → k < j → is_field (value_kind kind) (numbered_field fields k) ≡ true
 
 -- the scale compares numbers, and object r is the first whose value is neither empty nor a number
-pub record HasBadValue (t : ValueTable) (s : Scaling) (r : ℕ) : Type 0 where
+pub record HasBadValue (t : ValueTable) (s : PlanRecord) (r : ℕ) : Type 0 where
   pub numbers : s.kind ≢ kind.Nominal
   pub inside : r < length t.objects
   pub some : value_at s.place (object_at t r) ≢ []
@@ -64,7 +64,7 @@ is_new_name seen names p =
     is_name (slice_index_or names p []) && not (list_any (bytes_eq (slice_index_or names p [])) (seen ++ take p names))
 
 -- field j is the scale value of the first attribute that is made with a text that is no name, or with the name of an earlier one
-pub record HasBadName (seen : List Text) (s : Scaling) (j : ℕ) : Type 0 where
+pub record HasBadName (seen : List Text) (s : PlanRecord) (j : ℕ) : Type 0 where
   pub place : ℕ
   pub inside : place < length (names_of s)
   pub field : j ≡ place % length s.values + 3
@@ -72,18 +72,18 @@ pub record HasBadName (seen : List Text) (s : Scaling) (j : ℕ) : Type 0 where
   pub first : (q : ℕ) → q < place → is_new_name seen (names_of s) q ≡ true
 
 -- with those seen, the scaling makes too many attributes
-abbrev pub MakesTooMany : List Text → Scaling → Type 0
+abbrev pub MakesTooMany : List Text → PlanRecord → Type 0
 MakesTooMany seen s = MAX_ATTRIBUTES < length (seen ++ names_of s)
 
 -- record i, behind the records of this plan, is at fault in this way
-abbrev pub IsAtFault : ValueTable → ℕ → List Scaling → Record → PlanFault → Type 0
+abbrev pub IsAtFault : ValueTable → ℕ → List PlanRecord → Record → PlanFault → Type 0
 IsAtFault t i plan fields (fault.NotUtf8 at) = ⊥
 IsAtFault t i plan fields (fault.BadKind k) = (k ≡ i) × NamesNoKind fields
 IsAtFault t i plan fields (fault.UnknownAttribute k) = (k ≡ i) × NamesNoAttribute t fields
-IsAtFault t i plan fields (fault.BadScale k j) = (k ≡ i) × ((s : Scaling) × IsRecordOf t s fields × HasBadScale s.kind fields j)
-IsAtFault t i plan fields (fault.BadValue k r) = (k ≡ i) × ((s : Scaling) × IsRecordOf t s fields × HasBadValue t s r)
-IsAtFault t i plan fields (fault.BadName k j) = (k ≡ i) × ((s : Scaling) × IsRecordOf t s fields × HasBadName (made_names plan) s j)
-IsAtFault t i plan fields (fault.TooMany k) = (k ≡ i) × ((s : Scaling) × IsRecordOf t s fields × MakesTooMany (made_names plan) s)
+IsAtFault t i plan fields (fault.BadScale k j) = (k ≡ i) × ((s : PlanRecord) × IsRecordOf t s fields × HasBadScale s.kind fields j)
+IsAtFault t i plan fields (fault.BadValue k r) = (k ≡ i) × ((s : PlanRecord) × IsRecordOf t s fields × HasBadValue t s r)
+IsAtFault t i plan fields (fault.BadName k j) = (k ≡ i) × ((s : PlanRecord) × IsRecordOf t s fields × HasBadName (made_names plan) s j)
+IsAtFault t i plan fields (fault.TooMany k) = (k ≡ i) × ((s : PlanRecord) × IsRecordOf t s fields × MakesTooMany (made_names plan) s)
 IsAtFault t i plan fields fault.Memory = ⊥
 
 -- which of its faults a record is tried for first
@@ -98,26 +98,26 @@ turn_of (fault.TooMany k) = 6
 turn_of fault.Memory = 7
 
 -- record i, behind the records of this plan, is at fault in this way, and in none that it is tried for before
-pub record IsFirstFault (t : ValueTable) (i : ℕ) (plan : List Scaling) (fields : Record) (e : PlanFault) : Type 0 where
+pub record IsFirstFault (t : ValueTable) (i : ℕ) (plan : List PlanRecord) (fields : Record) (e : PlanFault) : Type 0 where
   pub faulty : IsAtFault t i plan fields e
   pub first : (f : PlanFault) → turn_of f < turn_of e → IsAtFault t i plan fields f → ⊥
 
 -- record i, behind the records of this plan, names this scaling, and is at fault in no way
-pub record IsFaultless (t : ValueTable) (i : ℕ) (plan : List Scaling) (fields : Record) (s : Scaling) : Type 0 where
+pub record IsFaultless (t : ValueTable) (i : ℕ) (plan : List PlanRecord) (fields : Record) (s : PlanRecord) : Type 0 where
   pub named : IsRecordOf t s fields
   pub faultless : (e : PlanFault) → IsAtFault t i plan fields e → ⊥
 
 -- the records make this plan: each, behind those before it, names its scaling and is at fault in no way
-pub record MakePlan (t : ValueTable) (records : List Record) (plan : List Scaling) : Type 0 where
+pub record MakePlan (t : ValueTable) (records : List Record) (plan : List PlanRecord) : Type 0 where
   pub size : length plan ≡ length records
-  pub each : (k : ℕ) → k < length records → IsFaultless t (k + 1) (take k plan) (record_at records k) (scaling_at plan k)
+  pub each : (k : ℕ) → k < length records → IsFaultless t (k + 1) (take k plan) (record_at records k) (plan_record_at plan k)
 
 -- the records before this one make a plan, and this is the fault that it is refused for
 pub record IsRefused (t : ValueTable) (records : List Record) (e : PlanFault) : Type 0 where
   pub front : List Record
   pub fields : Record
   pub rest : List Record
-  pub plan : List Scaling
+  pub plan : List PlanRecord
   pub whole : records ≡ front ++ fields ∷ rest
   pub made : MakePlan t front plan
   pub faulty : IsFirstFault t (length front + 1) plan fields e

@@ -26,7 +26,7 @@ use Rattle.context_scaling.specs.declared.scales.ScaleValue.{ScaleValue}
 use Rattle.context_scaling.specs.declared.scales.ScaleValue.TheVariants as value
 
 -- an attribute, by its name and place, with the scale of that kind and these values
-pub record Scaling : Type 0 where
+pub record PlanRecord : Type 0 where
   pub kind : Kind
   pub attribute : Text
   pub place : ℕ
@@ -54,7 +54,7 @@ each_relation kind.Ordinal give = give relation.AtMost
 each_relation kind.Interordinal give = give relation.AtMost ++ give relation.AtLeast
 
 -- which attributes of the scale the text has
-abbrev pub scale_row : Scaling → Text → Set
+abbrev pub scale_row : PlanRecord → Text → Set
 scale_row s text = each_relation s.kind (λ r. map (stands text r) s.values)
 
 -- ---- names
@@ -73,21 +73,21 @@ abbrev pub made_name : Text → Relation → ScaleValue → Text
 made_name attribute relation v = attribute ++ sign relation ++ value_text v
 
 -- the names of the attributes that are made from one attribute
-abbrev pub names_of : Scaling → List Text
+abbrev pub names_of : PlanRecord → List Text
 names_of s = each_relation s.kind (λ r. map (made_name s.attribute r) s.values)
 
 -- the names of the attributes that a plan makes, in its order
-abbrev pub made_names : List Scaling → List Text
+abbrev pub made_names : List PlanRecord → List Text
 made_names plan = flat_map names_of plan
 
 -- ---- the scaled table
 
 -- which attributes that the plan makes the object has
-abbrev pub object_row : List Scaling → ObjectValues → Set
+abbrev pub object_row : List PlanRecord → ObjectValues → Set
 object_row plan object = flat_map (λ s. scale_row s (value_at s.place object)) plan
 
 -- the scaled table: it has no title, and the attributes that the plan makes
-abbrev pub scaled : ValueTable → List Scaling → NamedContext
+abbrev pub scaled : ValueTable → List PlanRecord → NamedContext
 scaled t plan = record {
   title = None;
   objects = map (λ object. object.name) t.objects;
@@ -104,7 +104,7 @@ is_scalable kind.Ordinal text = (length text == 0) || is_some (number_of text)
 is_scalable kind.Interordinal text = (length text == 0) || is_some (number_of text)
 
 -- a scaling fits behind a plan that makes the names seen
-pub record FitsBehind (seen : List Text) (t : ValueTable) (s : Scaling) : Type 0 where
+pub record FitsBehind (seen : List Text) (t : ValueTable) (s : PlanRecord) : Type 0 where
   pub places : slice_get t.attributes s.place ≡ Some s.attribute
   pub numbers : All (λ text. is_scalable s.kind text ≡ true) (column t s.place)
   pub named : All (λ name. name_fault name ≡ None) (names_of s)
@@ -113,7 +113,7 @@ pub record FitsBehind (seen : List Text) (t : ValueTable) (s : Scaling) : Type 0
 
 -- each attribute of the plan has its name at its place in the table, and only numbers there if its scale compares numbers; the names of
 -- the attributes that are made are names, differ, and are not too many
-pub record Fits (plan : List Scaling) (t : ValueTable) : Type 0 where
+pub record Fits (plan : List PlanRecord) (t : ValueTable) : Type 0 where
   pub places : All (λ s. slice_get t.attributes s.place ≡ Some s.attribute) plan
   pub numbers : All (λ s. All (λ text. is_scalable s.kind text ≡ true) (column t s.place)) plan
   pub named : All (λ name. name_fault name ≡ None) (made_names plan)

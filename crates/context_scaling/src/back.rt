@@ -4,7 +4,7 @@ ghost use Rattle.std.specs.Prelude.{◌≡◌, ◌<◌, ◌≤◌, ◌+◌, ℕ,
 ghost use Rattle.value_tables.specs.Values.{ValueTable, object_at, value_at};
 ghost use Rattle.context_scaling.specs.Scaling.{Fits, made_names, names_of, object_row};
 ghost use Rattle.context_scaling.specs.Back.{GivesBack, single_place, back_at, begin_of, back_between, is_narrower, narrowest_bound};
-ghost use Rattle.context_scaling.specs.Back.{narrower_bound, narrower_bound_of, places_from, scaling_at};
+ghost use Rattle.context_scaling.specs.Back.{narrower_bound, narrower_bound_of, places_from, plan_record_at};
 
 use crate::plan::{Plan, PlanRecord};
 use crate::scales::{Kind, Relation, ScaleValue};
@@ -29,7 +29,7 @@ pub fn read_back(plan: &Plan, k: usize, row: &Attrs) -> Back
     requires width { length row.now ≡ length (made_names plan.now) }
     ensures back { result ≡ back_at plan.now k row.now }
     ensures value { (t : ValueTable) (g : ℕ) → Fits plan.now t → row.now ≡ object_row plan.now (object_at t g)
-        → GivesBack (scaling_at plan.now k).kind (scaling_at plan.now k).values (value_at (scaling_at plan.now k).place (object_at t g)) result }
+        → GivesBack (plan_record_at plan.now k).kind (plan_record_at plan.now k).values (value_at (plan_record_at plan.now k).place (object_at t g)) result }
 {
     back_at(plan, k, row)
 }
@@ -62,7 +62,7 @@ fn begin_of(plan: &Plan, k: usize, width: u32) -> u32
     requires record { k < length plan.now }
     requires width { length (made_names plan.now) ≡ width }
     ensures begin { result ≡ begin_of plan.now k }
-    ensures room { result + length (names_of (scaling_at plan.now k)) ≤ width }
+    ensures room { result + length (names_of (plan_record_at plan.now k)) ≤ width }
 {
     let mut begin = 0;
     for planned in &plan.records()[..k] {

@@ -6,7 +6,7 @@ ghost use Rattle.text_pieces.specs.Lists.{EachName};
 ghost use Rattle.csv_context.specs.Records.{csv_records};
 ghost use Rattle.value_tables.specs.Values.{ValueTable};
 ghost use Rattle.text_pieces.specs.Telling.{Tells};
-ghost use Rattle.context_scaling.specs.Scaling.{Scaling};
+ghost use Rattle.context_scaling.specs.Scaling.{PlanRecord};
 ghost use Rattle.context_scaling.specs.PlanForm.{plan_form};
 ghost use Rattle.context_scaling.specs.Refusals.{IsRefused, MakePlan};
 ghost use Rattle.context_scaling.specs.declared.PlanFault.{PlanFault};
@@ -23,13 +23,13 @@ pub fn refusals_of_plans()
 
 /// The records of a file make a plan if and only if each, behind those before it, names its scaling and is at fault in no way.
 pub fn records_of_plans()
-    ensures { (t : ValueTable) (bytes : List ℕ) (plan : List Scaling) → EachName t.attributes → IsUtf8 bytes
+    ensures { (t : ValueTable) (bytes : List ℕ) (plan : List PlanRecord) → EachName t.attributes → IsUtf8 bytes
         → (plan_form t bytes ≡ Ok plan) ↔ MakePlan t (csv_records bytes) plan }
 {}
 
 /// The bytes of a file have no two answers for a table of values: if neither is that memory ran out, they are equal.
 pub fn plans_have_one_answer()
-    ensures { (t : ValueTable) (bytes : List ℕ) (a b : Result (List Scaling) PlanFault)
+    ensures { (t : ValueTable) (bytes : List ℕ) (a b : Result (List PlanRecord) PlanFault)
         → Tells fault.Memory a (plan_form t bytes) → Tells fault.Memory b (plan_form t bytes)
         → a ≢ Err fault.Memory → b ≢ Err fault.Memory → a ≡ b }
 {}

@@ -5,8 +5,8 @@
 ghost use Rattle.std.specs.Prelude.{◌≡◌};
 
 mod back;
-mod filling;
 pub mod laws;
+mod partial_row;
 mod plan;
 mod read;
 mod scales;

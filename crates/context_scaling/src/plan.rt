@@ -22,9 +22,9 @@ pub struct PlanRecord {
 }
 
 impl Model for PlanRecord {
-    ghost use Rattle.context_scaling.specs.Scaling.{Scaling};
+    ghost use Rattle.context_scaling.specs.Scaling.{PlanRecord};
 
-    ghost Value = { Scaling };
+    ghost Value = { PlanRecord };
 
     ghost view = { λ r. record { kind = r.kind; attribute = r.attribute; place = r.place; values = r.values.items } };
 }
@@ -40,9 +40,9 @@ pub struct Plan {
 
 impl Model for Plan {
     ghost use Rattle.std.specs.Prelude.{List, ◌≡◌};
-    ghost use Rattle.context_scaling.specs.Scaling.{Scaling, made_names};
+    ghost use Rattle.context_scaling.specs.Scaling.{PlanRecord, made_names};
 
-    ghost Value = { List Scaling };
+    ghost Value = { List PlanRecord };
 
     ghost view = { λ p. p.records.items };
 

@@ -26,7 +26,7 @@ use value_tables::{FieldKind, Values, first_bad, name_at, number_of};
 
 /// An attribute of a table of values: its name and its place.
 #[derive(Drop)]
-pub struct Found {
+pub struct FoundAttribute {
     name: Name,
     place: usize,
 }
@@ -135,7 +135,7 @@ fn attribute_at(
     values: &Values,
     i: usize,
     fields: &ByteRecord,
-) -> Result<Found, PlanFault>
+) -> Result<FoundAttribute, PlanFault>
     requires text { AllText (fields_of fields.now) }
     requires long { 1 < length (fields_of fields.now) }
     ensures form { TellsBy PlanFault.Memory (λ found. found.place) result
@@ -148,7 +148,7 @@ fn attribute_at(
     }
     let name = name_at(alloc, fields, 1)?;
     match values.attribute(&name) {
-        Some(place) => Ok(Found { name, place }),
+        Some(place) => Ok(FoundAttribute { name, place }),
         None => Err(PlanFault::UnknownAttribute(i)),
     }
 }

@@ -5,7 +5,7 @@ ghost use Rattle.value_tables.specs.Numbers.{number_of};
 ghost use Rattle.value_tables.specs.Values.{object_at, value_at};
 ghost use Rattle.context_scaling.specs.Scaling.{Fits, made_names, names_of, scale_row, scaled, object_row, stands};
 
-use crate::filling::Filling;
+use crate::partial_row::PartialRow;
 use crate::plan::{Plan, PlanRecord};
 use crate::scales::{Kind, Relation, ScaleValue, stands};
 use attr_bits::Attrs;
@@ -74,7 +74,7 @@ fn object_row(values: &Values, plan: &Plan, g: usize, width: u32) -> Attrs
     requires width { width ≡ length (made_names plan.now) }
     ensures { result ≡ object_row plan.now (object_at values.now g) }
 {
-    let mut row = Filling::new(width);
+    let mut row = PartialRow::new(width);
     for planned in plan.records() {
         put_record(&mut row, planned, values.value(g, planned.place));
     }
@@ -82,7 +82,7 @@ fn object_row(values: &Values, plan: &Plan, g: usize, width: u32) -> Attrs
 }
 
 /// Fills in which attributes of a record the text has.
-fn put_record(row: &mut Filling, planned: &PlanRecord, text: &[u8])
+fn put_record(row: &mut PartialRow, planned: &PlanRecord, text: &[u8])
     requires { length row.old.marks + length (names_of planned.now) ≤ row.old.width }
     ensures { row.new ≡ record row.old { marks = row.old.marks ++ scale_row planned.now text.now } }
 {
@@ -99,7 +99,7 @@ fn put_record(row: &mut Filling, planned: &PlanRecord, text: &[u8])
 
 /// Fills in whether the text stands in this relation to each scale value.
 fn put_relation(
-    row: &mut Filling,
+    row: &mut PartialRow,
     relation: Relation,
     planned: &PlanRecord,
     text: &[u8],

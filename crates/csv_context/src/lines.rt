@@ -95,7 +95,7 @@ pub fn next_field(line: &[u8]) -> (&[u8], Option<&[u8]>)
     ensures { fields_in line.now ≡ result.0.now ∷ fields_behind result.1 }
 {
     if line.len() < 2 {
-        return long_field(line);
+        return field_by_search(line);
     }
     if line[0] == b',' {
         return (&line[..0], Some(&line[1..]));
@@ -103,11 +103,11 @@ pub fn next_field(line: &[u8]) -> (&[u8], Option<&[u8]>)
     if line[1] == b',' {
         return (&line[..1], Some(&line[2..]));
     }
-    long_field(line)
+    field_by_search(line)
 }
 
 /// The first field of a line, of any length, and the bytes behind its comma.
-fn long_field(line: &[u8]) -> (&[u8], Option<&[u8]>)
+fn field_by_search(line: &[u8]) -> (&[u8], Option<&[u8]>)
     ensures { fields_in line.now ≡ result.0.now ∷ fields_behind result.1 }
 {
     match memchr(b',', line) {

@@ -10,8 +10,8 @@ use Rattle.expert_gate.specs.Histories.{by_expert, IsHistory}
 use Rattle.expert_gate.specs.declared.shared.Seen.{Seen}
 
 -- after a history: how many events, rows, accepted implications and open questions there are
-abbrev pub numbers_after : Opening → List SetEntry → Seen
-numbers_after o H =
+abbrev pub counts_after : Opening → List SetEntry → Seen
+counts_after o H =
     let h : ExploreModel = record { opening = o; journal = H; spare = 0 } in
     record {
       events = length H;

@@ -10,11 +10,11 @@ use turn_lock::TurnFault;
 /// A thing with a number of attributes. It stands apart from `Desk`, since asking for the number never waits.
 pub trait Wide {
     /// The number of attributes.
-    ghost attributes: { Self → ℕ };
+    ghost attribute_count: { Self → ℕ };
 
     /// Gives the number of attributes.
     fn width(&self) -> u32
-        ensures { result ≡ attributes self.now };
+        ensures { result ≡ attribute_count self.now };
 }
 
 /// Where one expert works: each event is one turn.
@@ -27,22 +27,22 @@ pub trait Desk: Wide {
 
     /// The expert gives back what it holds, and asks for a question.
     fn draw(&mut self) -> Result<Reply, TurnFault>
-        ensures turn { Plays (Self.attributes self.old) (Draw (state self.old).number) (state self.old) result (state self.new) }
-        ensures width { Self.attributes self.new ≡ Self.attributes self.old };
+        ensures turn { Plays (Self.attribute_count self.old) (Draw (state self.old).number) (state self.old) result (state self.new) }
+        ensures width { Self.attribute_count self.new ≡ Self.attribute_count self.old };
 
     /// The expert confirms the question that it holds.
     fn confirm(&mut self) -> Result<Reply, TurnFault>
-        ensures turn { Plays (Self.attributes self.old) (Confirm (state self.old).number) (state self.old) result (state self.new) }
-        ensures width { Self.attributes self.new ≡ Self.attributes self.old };
+        ensures turn { Plays (Self.attribute_count self.old) (Confirm (state self.old).number) (state self.old) result (state self.new) }
+        ensures width { Self.attribute_count self.new ≡ Self.attribute_count self.old };
 
     /// The expert answers with a counterexample: an object of this name, with this row.
     fn row(&mut self, name: Name, row: Attrs) -> Result<Reply, TurnFault>
-        requires { length row ≡ Self.attributes self.old }
-        ensures turn { Plays (Self.attributes self.old) (Row (state self.old).number name row) (state self.old) result (state self.new) }
-        ensures width { Self.attributes self.new ≡ Self.attributes self.old };
+        requires { length row ≡ Self.attribute_count self.old }
+        ensures turn { Plays (Self.attribute_count self.old) (Row (state self.old).number name row) (state self.old) result (state self.new) }
+        ensures width { Self.attribute_count self.new ≡ Self.attribute_count self.old };
 
     /// The expert gives back what it holds.
     fn leave(&mut self) -> Result<Reply, TurnFault>
-        ensures turn { Plays (Self.attributes self.old) (Leave (state self.old).number) (state self.old) result (state self.new) }
-        ensures width { Self.attributes self.new ≡ Self.attributes self.old };
+        ensures turn { Plays (Self.attribute_count self.old) (Leave (state self.old).number) (state self.old) result (state self.new) }
+        ensures width { Self.attribute_count self.new ≡ Self.attribute_count self.old };
 }

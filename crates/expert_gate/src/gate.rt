@@ -2,13 +2,13 @@
 
 ghost use Rattle.std.specs.Prelude.{◌≡◌, ◌≤◌, ◌↔◌, true, [], IsErrOf, IfOk, IfErr, All, map, length};
 ghost use Rattle.fca_model.specs.declared.Event.TheVariants.{Draw, Confirm, Row, Leave};
-ghost use Rattle.fca_model.specs.Exploration.{expert_of, has_width};
+ghost use Rattle.fca_model.specs.Exploration.{expert_of, has_row_of_width};
 ghost use Rattle.fca_model.specs.declared.TheConstants.{MAX_TURNS};
 ghost use Rattle.turn_lock.specs.Passes.{badge, roll, Belongs, IsFresh};
 ghost use Rattle.turn_lock.specs.declared.fault.TurnFault.TheVariants as fault;
-ghost use Rattle.expert_gate.specs.Turns.{numbers_after, MakesTurn, Looks, HasClosed};
+ghost use Rattle.expert_gate.specs.Turns.{counts_after, MakesTurn, Looks, HasClosed};
 
-use crate::searching::Searching;
+use crate::searching::SearchHelper;
 use crate::shared::{Seen, SharedExplore};
 use attr_bits::Attrs;
 use explore_state::{Event, Explore, LevelSearch, OneThread, Reply};
@@ -154,18 +154,18 @@ impl Gate {
     ) -> Result<Reply, TurnFault>
         requires lock { Belongs self.now pass.old }
         requires expert { expert_of event ≡ pass.old.number }
-        requires width { has_width self.now.base.table.context.width event ≡ true }
+        requires width { has_row_of_width self.now.base.table.context.width event ≡ true }
         ensures { MakesTurn self.now event pass.old result pass.new }
     {
         self.lock
-            .with_turn_by(rt, &Searching { search }, pass, event)
+            .with_turn_by(rt, &SearchHelper { search }, pass, event)
     }
 
     /// One turn that only looks. The pass stays one of this gate's.
     pub fn see<R: Wait>(&self, rt: &R, pass: &mut ExpertPass) -> Result<Seen, TurnFault>
         requires lock { Belongs self.now pass.old }
         ensures same { badge pass.new ≡ badge pass.old }
-        ensures looked { IfOk result (λ seen. Looks self.now.base pass.old pass.new × (seen ≡ numbers_after self.now.base pass.new.seen)) }
+        ensures looked { IfOk result (λ seen. Looks self.now.base pass.old pass.new × (seen ≡ counts_after self.now.base pass.new.seen)) }
         ensures only { IfErr result (λ e. e ≡ fault.Spent) }
         ensures spent { IsErrOf result fault.Spent ↔ (pass.old.made ≡ pass.old.turns) }
         ensures unchanged { IsErrOf result fault.Spent → pass.new ≡ pass.old }

@@ -22,7 +22,7 @@ pub struct Seated<'a, R, S> {
 }
 
 impl<'a, R, S> Wide for Seated<'a, R, S> {
-    ghost attributes = { λ s. s.gate.now.base.table.context.width };
+    ghost attribute_count = { λ s. s.gate.now.base.table.context.width };
 
     fn width(&self) -> u32 {
         self.gate.width()

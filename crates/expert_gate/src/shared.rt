@@ -57,7 +57,7 @@ impl Logged for SharedExplore {
     ghost use Rattle.fca_model.specs.Exploration.{expert_of};
     ghost use Rattle.explore_state.specs.History.{Admits};
     ghost use Rattle.expert_gate.specs.Histories.{IsHistory, by_expert, history_front};
-    ghost use Rattle.expert_gate.specs.Turns.{numbers_after};
+    ghost use Rattle.expert_gate.specs.Turns.{counts_after};
 
     ghost base = { λ s. s.explore.opening };
 
@@ -65,7 +65,7 @@ impl Logged for SharedExplore {
 
     ghost legal = { IsHistory };
 
-    ghost shows = { λ opening history seen. seen ≡ numbers_after opening history };
+    ghost shows = { λ opening history seen. seen ≡ counts_after opening history };
 
     ghost admits = { Admits };
 

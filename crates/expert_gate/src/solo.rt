@@ -18,7 +18,7 @@ pub struct Solo<'a> {
 }
 
 impl<'a> Wide for Solo<'a> {
-    ghost attributes = { λ s. s.explore.now.opening.table.context.width };
+    ghost attribute_count = { λ s. s.explore.now.opening.table.context.width };
 
     fn width(&self) -> u32 {
         self.explore.table().rows().width()

@@ -22,7 +22,7 @@ use Rattle.fca_model.proofs.ClosureLemmas.{known_hold}
 use Rattle.implication_closure.specs.Closing.{HaveWidth}
 use Rattle.explore_state.specs.History.{Opening, ExploreModel, opening_state, state_of, open_of}
 use Rattle.explore_state.proofs.OpenLemmas.{wide_conclusions}
-use Rattle.oracle_expert.specs.Counts.{answers_recorded_in, dropped}
+use Rattle.oracle_expert.specs.Counts.{answers_recorded_in, dropped_count}
 use Rattle.oracle_expert.specs.Oracles.{Recall, no_conflict}
 use Rattle.oracle_expert.specs.Runs.{IsOracleFront, ends_done, conflicts_of}
 use Rattle.oracle_expert.proofs.CountLemmas.{oracle_turns, call_turns, oracle_few}
@@ -69,7 +69,7 @@ module _ (o : Opening) (H : List SetEntry) (turns : ℕ) (oracles : List Recall)
   pub within_turns : EachNumbered (IsWithinTurns H) oracles
   within_turns = λ k oracle at.
       let share = shares k oracle at in
-      subst (λ (cs : List (Option ℕ)). length (own H (k + 1)) ≤ 2 * answers_recorded_in H + dropped cs + 1) (sym share.conflicts)
+      subst (λ (cs : List (Option ℕ)). length (own H (k + 1)) ≤ 2 * answers_recorded_in H + dropped_count cs + 1) (sym share.conflicts)
       (oracle_turns K o.table.objects o.settings H respecting most legal oracle.table (k + 1) (is_number k oracle at) []
       (own H (k + 1)) refl share.front)
 
@@ -220,7 +220,7 @@ module _ (o : Opening) (old new : Seat Recall) (respecting : rows_respect o.sett
       let oracles : IsOracles D old.pass.number (record { due = None; conflicts = no_conflict D }) entries new.expert =
       oracle_runs D old.pass.number None (no_conflict D) old.expert entries new.expert refl free run.attended.run in
       by_end (most_turns H new.expert) run.end run.ended run.attended.end
-      (subst (λ (cs : List (Option ℕ)). length entries ≤ 2 * answers_recorded_in H + dropped cs + 1) (sym oracles.conflicts)
+      (subst (λ (cs : List (Option ℕ)). length entries ≤ 2 * answers_recorded_in H + dropped_count cs + 1) (sym oracles.conflicts)
       (oracle_turns o.table.context o.table.objects o.settings H respecting most legal D old.pass.number is old.pass.own entries own_is
       oracles.run))
 

@@ -12,7 +12,7 @@ use Rattle.fca_model.specs.Exploration.{State, SetEvent, SetReply, SetEntry, rul
 use Rattle.fca_model.specs.Exploration.{confirm_unheard}
 use Rattle.fca_model.specs.Exploration.{confirm_unrefuted, confirm_reply, row_new, row_unbroken, row_refuting, row_fitting, row_reply}
 use Rattle.fca_model.specs.Exploration.{reply_to, next}
-use Rattle.fca_model.specs.Exploration.{state_after, journal_of, events_of, expert_of, is_expert, has_width, IsLegal, own}
+use Rattle.fca_model.specs.Exploration.{state_after, journal_of, events_of, expert_of, is_expert, has_row_of_width, IsLegal, own}
 use Rattle.fca_model.specs.Invariant.{IsValid}
 use Rattle.fca_model.proofs.ListLemmas.{list_any-not, list_all-filter_kept}
 use Rattle.fca_model.proofs.ValidLemmas.{next_valid}
@@ -68,7 +68,7 @@ done_open s (Leave e) h = absurd (false≢true h)
 -- ---- in a history
 
 done_closes : (s : State) (es : List SetEvent) → IsValid s → list_all (λ event. is_expert (expert_of event)) es ≡ true
-    → list_all (has_width s.context.width) es ≡ true
+    → list_all (has_row_of_width s.context.width) es ≡ true
     → list_any (λ entry. is_done entry.reply) (journal_of s es) ≡ true → open_in (state_after s es) ≡ []
 unfolding state_after journal_of
 done_closes s [] v i w h = absurd (false≢true h)
@@ -76,9 +76,9 @@ done_closes s (event ∷ es) v i w h = elim (cases_Bool (is_done (reply_to s eve
   | inl t ↦ (run_done s v (done_open s event t) (event ∷ es) i w).2
   | inr f ↦
       let is = and_parts (is_expert (expert_of event)) (list_all (λ event. is_expert (expert_of event)) es) i in
-      let ws = and_parts (has_width s.context.width event) (list_all (has_width s.context.width) es) w in
+      let ws = and_parts (has_row_of_width s.context.width event) (list_all (has_row_of_width s.context.width) es) w in
       done_closes (next s event) es (next_valid s v event is.0) is.1
-      (subst (λ n. list_all (has_width n) es ≡ true) (sym (next_width s event)) ws.1)
+      (subst (λ n. list_all (has_row_of_width n) es ≡ true) (sym (next_width s event)) ws.1)
       (subst (λ b. (b || list_any (λ entry. is_done entry.reply) (journal_of (next s event) es)) ≡ true) f h)
 ]
 

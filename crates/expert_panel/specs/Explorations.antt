@@ -8,7 +8,7 @@ use Rattle.fca_model.specs.Invariant.{SameMembers}
 use Rattle.fca_model.specs.Exploration.{SetEntry, IsLegal, own}
 use Rattle.explore_state.specs.History.{Opening, ExploreModel, opening_state, state_of, open_of}
 use Rattle.turn_lock.specs.Passes.{Lock}
-use Rattle.oracle_expert.specs.Counts.{answers_recorded_in, dropped}
+use Rattle.oracle_expert.specs.Counts.{answers_recorded_in, dropped_count}
 use Rattle.oracle_expert.specs.Oracles.{Recall, no_conflict}
 use Rattle.oracle_expert.specs.Runs.{IsOracleFront, ends_done, conflicts_of}
 use Rattle.expert_panel.specs.declared.seat.Seat.{Seat}
@@ -53,7 +53,7 @@ HasFewRows oracle = length oracle.table.context.rows ≤ MAX_OBJECTS
 
 -- two turns for each answer that was recorded in the history, one for each row that the oracle dropped, and one more
 abbrev pub most_turns : List SetEntry → Recall → ℕ
-most_turns H oracle = 2 * answers_recorded_in H + dropped oracle.conflicts + 1
+most_turns H oracle = 2 * answers_recorded_in H + dropped_count oracle.conflicts + 1
 
 -- the entries of expert e are no more
 abbrev pub IsWithinTurns : List SetEntry → ℕ → Recall → Type 0
@@ -71,7 +71,7 @@ SeatsTurns H old new = HasMadeAtMost (most_turns H new.expert) old new
 
 -- two turns for each answer that was recorded in the history, one for each row that the oracle dropped from one to the other, and one more
 abbrev pub most_turns_between : List SetEntry → Recall → Recall → ℕ
-most_turns_between H old new = 2 * answers_recorded_in H + (dropped new.conflicts - dropped old.conflicts) + 1
+most_turns_between H old new = 2 * answers_recorded_in H + (dropped_count new.conflicts - dropped_count old.conflicts) + 1
 
 -- all rows of the oracle's table have one width
 abbrev pub HasEvenRows : Recall → Type 0

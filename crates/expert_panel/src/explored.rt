@@ -111,7 +111,7 @@ fn run_oracles<R: Threads + Wait + Sync>(
     requires fresh { All IsFresh passes.items }
     requires some { 1 ≤ gate.passes }
     requires oracles { vec_len oracles ≡ gate.passes }
-    requires untold { All (λ oracle. oracle.conflicts ≡ no_conflict oracle.table) oracles.items }
+    requires no_row_dropped { All (λ oracle. oracle.conflicts ≡ no_conflict oracle.table) oracles.items }
     requires width { All (λ oracle. oracle.table.context.width ≡ gate.base.table.context.width) oracles.items }
     requires known { rows_respect gate.base.settings.known gate.base.table.context ≡ true }
     ensures { IfOk result (λ r. HasEnded gate oracles.items r.explore r.oracles.items r.spent) }

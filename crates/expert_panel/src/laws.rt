@@ -12,11 +12,11 @@ ghost use Rattle.expert_panel.specs.declared.seat.Seat.{Seat};
 ghost use Rattle.expert_panel.specs.Seats.{HasRunSeat};
 ghost use Rattle.expert_panel.specs.Explorations.{SeatsTurns, HasMadeAtMost, most_turns_between};
 
-/// The number of turns that an oracle makes at a seat of a panel, if all experts may hold one question: `untold` if no row was dropped
+/// The number of turns that an oracle makes at a seat of a panel, if all experts may hold one question: `no_row_dropped` if no row was dropped
 /// before, and `any` by the rows that it drops there. `H` is any legal history whose entries of the expert are those of its pass, as
 /// that of the closed gate, or the one that the pass has seen.
 pub fn turns_of_a_seat()
-    ensures untold { (o : Opening) (old new : Seat Recall) → rows_respect o.settings.known o.table.context ≡ true
+    ensures no_row_dropped { (o : Opening) (old new : Seat Recall) → rows_respect o.settings.known o.table.context ≡ true
         → o.settings.holders ≡ MAX_EXPERTS
         → HasRunSeat (λ oracle. oracle.table.context.width) (λ oracle. oracle) Answers Learns o old new
         → old.expert.conflicts ≡ no_conflict old.expert.table

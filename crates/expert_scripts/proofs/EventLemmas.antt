@@ -14,7 +14,7 @@ use Rattle.fca_model.specs.declared.Event.TheVariants.{Draw, Confirm, Row, Leave
 use Rattle.expert_wire.specs.Texts.{pattern}
 use Rattle.text_pieces.specs.Numerals.{is_numeral, value_of}
 use Rattle.text_pieces.specs.Words.{is_space, first_word, later_words}
-use Rattle.expert_wire.specs.Words.{named_row}
+use Rattle.expert_wire.specs.Patterns.{named_row}
 use Rattle.text_pieces.proofs.NumeralLemmas.{numeral-decimal, utf8_decimal, decimal_no_space}
 use Rattle.text_pieces.proofs.WordLemmas.{before_first-at, after_first-at}
 use Rattle.expert_wire.proofs.ReadLemmas.{ascii_pattern, utf8_words, named_row-written}

@@ -28,7 +28,7 @@ use Rattle.expert_wire.specs.Lines.{numbered_lines}
 use Rattle.expert_wire.specs.Replies.{heading}
 use Rattle.text_pieces.specs.Numerals.{is_numeral, value_of}
 use Rattle.text_pieces.specs.Words.{is_space, first_word, later_words}
-use Rattle.expert_wire.specs.Words.{named_row, row_of_width, is_name, set_of_pattern}
+use Rattle.expert_wire.specs.Patterns.{named_row, row_of_width, is_name, set_of_pattern}
 use Rattle.expert_wire.proofs.SkipLemmas.{no_fault}
 use Rattle.expert_scripts.specs.declared.known_fault.KnownFault.{KnownFault}
 use Rattle.expert_scripts.specs.declared.known_fault.KnownFault.TheVariants.{BadWidth as WrongWidth}

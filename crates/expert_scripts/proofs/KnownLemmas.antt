@@ -7,7 +7,7 @@ use Rattle.fca_model.specs.Tables.{Text}
 use Rattle.fca_model.specs.Implications.{Rule}
 use Rattle.expert_wire.specs.Texts.{pattern, arrow_text, full_text}
 use Rattle.text_pieces.specs.Words.{is_space, first_word, later_words}
-use Rattle.expert_wire.specs.Words.{set_of_pattern}
+use Rattle.expert_wire.specs.Patterns.{set_of_pattern}
 use Rattle.text_pieces.specs.Lines.{lines}
 use Rattle.expert_wire.specs.Lines.{is_skipped}
 use Rattle.expert_wire.proofs.LineLemmas.{later_lines, numbered_lines-skipped, numbered_lines-kept}

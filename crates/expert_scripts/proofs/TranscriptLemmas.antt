@@ -27,7 +27,7 @@ use Rattle.expert_wire.specs.Texts.{line_end, pattern, names_of, comma_tail, nam
 use Rattle.expert_wire.specs.Replies.{heading, reply_text}
 use Rattle.text_pieces.specs.Numerals.{is_numeral, value_of}
 use Rattle.text_pieces.specs.Words.{is_space, first_word, later_words}
-use Rattle.expert_wire.specs.Words.{is_name}
+use Rattle.expert_wire.specs.Patterns.{is_name}
 use Rattle.expert_wire.proofs.LineLemmas.{numbered_lines-kept}
 use Rattle.text_pieces.proofs.NumeralLemmas.{utf8_decimal, decimal_no_space}
 use Rattle.text_pieces.proofs.WordLemmas.{before_first-at, after_first-at}

@@ -8,7 +8,7 @@ use Rattle.fca_model.specs.Sets.{Set}
 use Rattle.fca_model.specs.Tables.{Text}
 use Rattle.fca_model.specs.Implications.{Rule, rule}
 use Rattle.text_pieces.specs.Words.{first_word, later_words}
-use Rattle.expert_wire.specs.Words.{set_of_pattern}
+use Rattle.expert_wire.specs.Patterns.{set_of_pattern}
 use Rattle.text_pieces.specs.Lines.{lines}
 use Rattle.expert_wire.specs.Lines.{numbered_lines}
 use Rattle.expert_scripts.specs.declared.known_fault.KnownFault.{KnownFault}

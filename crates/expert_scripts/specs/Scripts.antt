@@ -13,7 +13,7 @@ use Rattle.fca_model.specs.Sets.{Set}
 use Rattle.fca_model.specs.Tables.{Text}
 use Rattle.fca_model.specs.Names.{IsName}
 use Rattle.fca_model.specs.Implications.{Rule}
-use Rattle.fca_model.specs.Exploration.{Settings, RowName, SetEvent, SetEntry, expert_of, has_width, is_expert}
+use Rattle.fca_model.specs.Exploration.{Settings, RowName, SetEvent, SetEntry, expert_of, has_row_of_width, is_expert}
 use Rattle.fca_model.specs.declared.TheConstants.{MAX_EXPERTS}
 use Rattle.fca_model.specs.declared.Event.TheVariants.{Draw, Confirm, Row, Leave}
 use Rattle.exploration_terms.specs.Settings.{settings_of, name_of}
@@ -24,7 +24,7 @@ use Rattle.expert_wire.specs.Lines.{numbered_lines}
 use Rattle.expert_wire.specs.Replies.{heading}
 use Rattle.text_pieces.specs.Numerals.{is_numeral, value_of}
 use Rattle.text_pieces.specs.Words.{first_word, later_words}
-use Rattle.expert_wire.specs.Words.{is_name, named_row}
+use Rattle.expert_wire.specs.Patterns.{is_name, named_row}
 use Rattle.expert_scripts.specs.declared.known_fault.KnownFault.{KnownFault}
 use Rattle.expert_scripts.specs.declared.known_fault.KnownFault.TheVariants as known
 use Rattle.expert_scripts.specs.Known.{known_rule, all_ok}
@@ -184,7 +184,7 @@ script_form bytes n = content_of_lines n no_settings (numbered_lines 1 (lines by
 
 -- the event is of an expert, and its row, if it has one, has width n
 abbrev pub may_apply : ℕ → SetEvent → Bool
-may_apply n event = is_expert (expert_of event) && has_width n event
+may_apply n event = is_expert (expert_of event) && has_row_of_width n event
 
 -- the name of the row is valid
 abbrev pub HasRowName : SetEvent → Type 0
@@ -194,7 +194,7 @@ HasRowName event = ⊤
 -- an event that is read back from its line: it is of an expert, and its row, if it has one, has width n and a valid name
 pub record EventCanBeWritten (n : ℕ) (event : SetEvent) : Type 0 where
   pub expert : is_expert (expert_of event) ≡ true
-  pub wide : has_width n event ≡ true
+  pub wide : has_row_of_width n event ≡ true
   pub named : HasRowName event
 
 -- each event of the entries is read back from its line

@@ -5,7 +5,7 @@ ghost use Rattle.fca_model.specs.declared.TheConstants.{MAX_ATTRIBUTES};
 ghost use Rattle.expert_scripts.specs.Scripts.{event_of, event_of_words, expert_in, row_event};
 
 use crate::fault::ScriptFault;
-use expert_wire::{RequestFault, read_row, small_number, utf8_text};
+use expert_wire::{RequestFault, expert_number, read_row, utf8_text};
 use exploration_terms::Event;
 use std::alloc::Global;
 use text_pieces::{is_numeral, split_word};
@@ -58,7 +58,7 @@ fn read_expert(word: &str, number: usize) -> Result<u8, ScriptFault>
     if !is_numeral(word.as_bytes()) {
         return Err(ScriptFault::BadLine(number));
     }
-    small_number(word).ok_or(ScriptFault::BadExpert(number))
+    expert_number(word).ok_or(ScriptFault::BadExpert(number))
 }
 
 /// The row after the word `row`.

@@ -10,7 +10,7 @@ ghost use Rattle.expert_scripts.specs.Known.{known_rule};
 
 use crate::fault::ScriptFault;
 use crate::known::read_rule;
-use expert_wire::small_number;
+use expert_wire::expert_number;
 use exploration_terms::{ExpertNames, Settings};
 use fca_model::{MAX_EXPERTS, Memory, Name, NameFault};
 use implication_closure::ImplicationList;
@@ -89,7 +89,7 @@ impl PartialSettings {
         if !is_numeral(word.as_bytes()) {
             return Err(ScriptFault::BadLine(number));
         }
-        let holders = small_number(word);
+        let holders = expert_number(word);
         if holders.is_none() || self.holders.is_some() {
             return Err(ScriptFault::BadHolders(number));
         }
@@ -113,7 +113,7 @@ impl PartialSettings {
             Err(NameFault::Memory) => return Err(ScriptFault::Memory),
             Err(_) => return Err(ScriptFault::BadLine(number)),
         };
-        let Some(expert) = small_number(word) else {
+        let Some(expert) = expert_number(word) else {
             return Err(ScriptFault::BadExpert(number));
         };
         if !self.names.add(expert, name)? {

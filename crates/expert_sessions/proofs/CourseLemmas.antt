@@ -23,15 +23,15 @@ use Rattle.expert_sessions.specs.declared.said.Said.{Said}
 use Rattle.expert_sessions.specs.declared.said.Said.TheVariants.{Bye}
 use Rattle.expert_sessions.specs.declared.ended.Ended.{Ended}
 use Rattle.expert_sessions.specs.declared.ended.Ended.TheVariants.{Quit, EndOfInput, ReadFault, WriteFault, LongLine, Limit, Spent, Memory}
-use Rattle.expert_sessions.specs.Lines.{Asks, Says, BeginsWithEvent, Exchange, IsExchange, IsQuit, IsNotQuit, lines_of, replies_of}
+use Rattle.expert_sessions.specs.Lines.{Asks, Says, BeginsWithEvent, Exchange, IsExchange, IsQuit, IsNotQuit, lines_of, answers_text}
 use Rattle.expert_sessions.specs.Lines.{entries_of, said_line, before_last}
 use Rattle.expert_sessions.specs.Talks.{GoesOn, HasQuit, LacksLastAnswer}
-use Rattle.expert_sessions.specs.Moves.{EndState, Moves, IsQuiet, DeskCount, Enters}
+use Rattle.expert_sessions.specs.Moves.{DuplexState, Moves, IsQuiet, DeskCount, Enters}
 use Rattle.expert_sessions.specs.Courses.{said_of, SendsText, ReadsOn, HasFeedAt, LacksLine, Serves, HaltsAt, Halts, Goes, Closes}
 use Rattle.expert_sessions.specs.Courses.{HasServed}
 use Rattle.expert_sessions.proofs.MoveLemmas.{Moves-trans, Moves-equal, IsQuiet-trans, Enters-nil, Enters-trans, Enters-equal}
 use Rattle.expert_sessions.proofs.MoveLemmas.{one_less-taken, one_less-none}
-use Rattle.expert_sessions.proofs.LineLemmas.{not_bye, bye_quits, is-exchange, lines_of-append, replies_of-append, entries_of-append}
+use Rattle.expert_sessions.proofs.LineLemmas.{not_bye, bye_quits, is-exchange, lines_of-append, answers_text-append, entries_of-append}
 use Rattle.expert_sessions.proofs.LineLemmas.{turns_of-append}
 use Rattle.expert_sessions.proofs.LineLemmas.{before_last-snoc, before_last-All, All-one, sent_whole, sent_quiet, write_rose}
 
@@ -73,7 +73,7 @@ turn-refused e form event c d asks left (Err NoTurn) same spent =
     (refl, none.0, record { added = same ∙ sym (append-nil c.entries); turns = none.1 }, event, asks)
 
 -- no whole line was read
-pub unread : (t : NamedContext) (e : ℕ) (a b : EndState) (c : DeskCount) (ahead ahead' : Text) (ended : Ended) → ReadsOn a b ahead ahead'
+pub unread : (t : NamedContext) (e : ℕ) (a b : DuplexState) (c : DeskCount) (ahead ahead' : Text) (ended : Ended) → ReadsOn a b ahead ahead'
     → LacksLine a b ahead' ended → Halts t e a b c c ahead ended
 unread t e a b c ahead ahead' ended r h = record {
   more = [];
@@ -112,7 +112,7 @@ begins-event n e text at event feed few asks = record {
 }
 
 -- the line was read, and no turn was left for it
-pub unturned : (t : NamedContext) (e : ℕ) (a b : EndState) (c d : DeskCount) (ahead ahead' : Text) (at : ℕ) (ended : Ended)
+pub unturned : (t : NamedContext) (e : ℕ) (a b : DuplexState) (c d : DeskCount) (ahead ahead' : Text) (at : ℕ) (ended : Ended)
     (event : SetEvent)
     → ReadsOn a b ahead ahead' → b.read_faults ≡ a.read_faults
     → HasFeedAt ahead' at → at ≤ LINE_BYTES → Asks e (request_form (take at ahead') t.context.width) event → ended ≡ Spent
@@ -142,7 +142,7 @@ one_turn : (turns : ℕ) → turns ≡ turns + 0
 one_turn turns = omega arith
 
 -- the line was read, and answered; then what was read is the line, and what stands ahead now
-module _ (t : NamedContext) (e : ℕ) (a b b' : EndState) (c d : DeskCount) (ahead ahead' ahead'' : Text) (at : ℕ) (said : Said)
+module _ (t : NamedContext) (e : ℕ) (a b b' : DuplexState) (c d : DeskCount) (ahead ahead' ahead'' : Text) (at : ℕ) (said : Said)
     (made : List SetEntry) (turns : ℕ)
     (r : ReadsOn a b ahead ahead') (still : b.read_faults ≡ a.read_faults) (feed : HasFeedAt ahead' at) (few : at ≤ LINE_BYTES)
     (answered : Says e (request_form (take at ahead') t.context.width) said made turns)
@@ -212,7 +212,7 @@ module _ (t : NamedContext) (e : ℕ) (a b b' : EndState) (c d : DeskCount) (ahe
 
 -- ---- all lines
 
-pub greeted : (t : NamedContext) (e : ℕ) (a b : EndState) (c : DeskCount) (result : Result (Unit {0}) Put)
+pub greeted : (t : NamedContext) (e : ℕ) (a b : DuplexState) (c : DeskCount) (result : Result (Unit {0}) Put)
     → SendsText a b (greeting t e) result
     → is_err result ≡ false → Goes t e a b c c [] 0
 greeted t e a b c result w ok = record {
@@ -227,7 +227,7 @@ greeted t e a b c result w ok = record {
   read = refl;
 }
 
-pub ungreeted : (t : NamedContext) (e lines : ℕ) (a b : EndState) (c : DeskCount) (result : Result (Unit {0}) Put)
+pub ungreeted : (t : NamedContext) (e lines : ℕ) (a b : DuplexState) (c : DeskCount) (result : Result (Unit {0}) Put)
     → SendsText a b (greeting t e) result → is_err result ≡ true
     → HasServed t e lines a b c c WriteFault
 ungreeted t e lines a b c result w failed = record {
@@ -239,7 +239,7 @@ ungreeted t e lines a b c result w failed = record {
     rest = [];
     unsent = w.unsent;
     each = All-nil (IsExchange t.context.width e);
-    order = All-nil (IsNotQuit t.context.width);
+    quit_last = All-nil (IsNotQuit t.context.width);
     few = omega arith;
     lines_taken = refl;
     answers_sent = append-nil (greeting t e) ∙ w.split;
@@ -249,17 +249,17 @@ ungreeted t e lines a b c result w failed = record {
   closes = (write_rose result w failed, tt, w.read_faults);
 }
 
-pub one_more_line : (t : NamedContext) (e : ℕ) (a b b' : EndState) (c d d' : DeskCount) (ahead ahead' : Text) (k : ℕ)
+pub one_more_line : (t : NamedContext) (e : ℕ) (a b b' : DuplexState) (c d d' : DeskCount) (ahead ahead' : Text) (k : ℕ)
     → Goes t e a b c d ahead k
     → Serves t e b b' d d' ahead ahead'
     → Goes t e a b' c d' ahead' (k + 1)
 one_more_line t e a b b' c d d' ahead ahead' k x y =
     let all = x.served ++ y.exchange ∷ [] in
-    let replies : (greeting t e ++ replies_of t.attributes x.served) ++ said_line t.attributes y.exchange.said ≡ greeting t e
-    ++ replies_of t.attributes all =
-    append_assoc (greeting t e) (replies_of t.attributes x.served) (said_line t.attributes y.exchange.said)
-    ∙ ap (λ z. greeting t e ++ z) (ap (λ z. replies_of t.attributes x.served ++ z)
-    (sym (append-nil (said_line t.attributes y.exchange.said))) ∙ sym (replies_of-append t.attributes x.served (y.exchange ∷ []))) in
+    let replies : (greeting t e ++ answers_text t.attributes x.served) ++ said_line t.attributes y.exchange.said ≡ greeting t e
+    ++ answers_text t.attributes all =
+    append_assoc (greeting t e) (answers_text t.attributes x.served) (said_line t.attributes y.exchange.said)
+    ∙ ap (λ z. greeting t e ++ z) (ap (λ z. answers_text t.attributes x.served ++ z)
+    (sym (append-nil (said_line t.attributes y.exchange.said))) ∙ sym (answers_text-append t.attributes x.served (y.exchange ∷ []))) in
     let entries : entries_of x.served ++ y.exchange.made ≡ entries_of all =
     ap (λ z. entries_of x.served ++ z) (sym (append-nil y.exchange.made)) ∙ sym (entries_of-append x.served (y.exchange ∷ [])) in
     let lines : lines_of x.served ++ (y.exchange.line ++ line_end) ≡ lines_of all =
@@ -282,21 +282,21 @@ one_more_line t e a b b' c d d' ahead ahead' k x y =
           ∙ sym (append_assoc (lines_of x.served) (y.exchange.line ++ line_end) ahead') ∙ ap (λ z. z ++ ahead') lines;
     }
 
-pub limited : (t : NamedContext) (e lines : ℕ) (a b : EndState) (c d : DeskCount) (ahead : Text) → Goes t e a b c d ahead lines
+pub limited : (t : NamedContext) (e lines : ℕ) (a b : DuplexState) (c d : DeskCount) (ahead : Text) → Goes t e a b c d ahead lines
     → HasServed t e lines a b c d Limit
 limited t e lines a b c d ahead x = record {
   taken = x.taken;
-  sent = greeting t e ++ replies_of t.attributes x.served;
+  sent = greeting t e ++ answers_text t.attributes x.served;
   moves = x.moves;
   course = record {
     served = x.served;
     rest = ahead;
     unsent = [];
     each = x.each;
-    order = before_last-All (IsNotQuit t.context.width) x.served x.asking;
+    quit_last = before_last-All (IsNotQuit t.context.width) x.served x.asking;
     few = let all = x.count in omega arith;
     lines_taken = x.read;
-    answers_sent = sym (append-nil (greeting t e ++ replies_of t.attributes x.served));
+    answers_sent = sym (append-nil (greeting t e ++ answers_text t.attributes x.served));
     whole = inl refl;
   };
   enters = x.enters;
@@ -310,10 +310,10 @@ record Last (t : NamedContext) (e lines : ℕ) (xs more : List Exchange) (sent :
   asking : All (IsNotQuit t.context.width) xs
   fewer : length xs < lines
   part : Text
-  split : sent ≡ (greeting t e ++ replies_of t.attributes xs) ++ part
+  split : sent ≡ (greeting t e ++ answers_text t.attributes xs) ++ part
 
 -- at most one line more was served
-more-few : (n e : ℕ) (a b : EndState) (d : DeskCount) (ended : Ended) (more : List Exchange) (rest unsent : Text)
+more-few : (n e : ℕ) (a b : DuplexState) (d : DeskCount) (ended : Ended) (more : List Exchange) (rest unsent : Text)
     → HaltsAt n e a b d ended more rest unsent → (more ≡ []) ⊎ ((x : Exchange) × (more ≡ x ∷ []))
 more-few n e a b d Quit more rest unsent h = inr (h.0, h.1)
 more-few n e a b d WriteFault more rest unsent h = inr (h.0, h.1)
@@ -357,13 +357,13 @@ has_quit n xs more x one quit = record {
 
 lacks_last : (t : NamedContext) (e : ℕ) (xs : List Exchange) (x : Exchange) (served : List Exchange) (sent part : Text)
     → served ≡ xs ++ x ∷ []
-    → sent ≡ (greeting t e ++ replies_of t.attributes xs) ++ part → LacksLastAnswer t e served sent
+    → sent ≡ (greeting t e ++ answers_text t.attributes xs) ++ part → LacksLastAnswer t e served sent
 lacks_last t e xs x [] sent part split all = tt
 lacks_last t e xs x (y ∷ ys) sent part split all =
     let front : before_last (y ∷ ys) ≡ xs = ap before_last split ∙ before_last-snoc xs x in
-    (part, all ∙ ap (λ z. (greeting t e ++ replies_of t.attributes z) ++ part) (sym front))
+    (part, all ∙ ap (λ z. (greeting t e ++ answers_text t.attributes z) ++ part) (sym front))
 
-closing : (t : NamedContext) (e lines : ℕ) (a b b' : EndState) (d : DeskCount) (xs more : List Exchange) (rest sent unsent : Text)
+closing : (t : NamedContext) (e lines : ℕ) (a b b' : DuplexState) (d : DeskCount) (xs more : List Exchange) (rest sent unsent : Text)
     → Last t e lines xs more sent → IsQuiet a b
     → (ended : Ended) → HaltsAt t.context.width e b b' d ended more rest unsent
     → Closes t e lines a b' d ended (xs ++ more) rest sent unsent
@@ -392,7 +392,7 @@ closing t e lines a b b' d xs more rest sent unsent l quiet Limit h = absurd h
 closing t e lines a b b' d xs more rest sent unsent l quiet Memory h = absurd h
 
 -- all that can be sent was sent, where no write failed
-whole_or_failed : (n e : ℕ) (a b b' : EndState) (d : DeskCount) (ended : Ended) (more : List Exchange) (rest unsent : Text)
+whole_or_failed : (n e : ℕ) (a b b' : DuplexState) (d : DeskCount) (ended : Ended) (more : List Exchange) (rest unsent : Text)
     → a.write_faults ≤ b.write_faults
     → HaltsAt n e b b' d ended more rest unsent
     → (unsent ≡ []) ⊎ Rose a.write_faults b'.write_faults
@@ -405,7 +405,7 @@ whole_or_failed n e a b b' d Spent more rest unsent w h = inl h.1
 whole_or_failed n e a b b' d Limit more rest unsent w h = absurd h
 whole_or_failed n e a b b' d Memory more rest unsent w h = absurd h
 
-pub halted : (t : NamedContext) (e lines : ℕ) (a b b' : EndState) (c d d' : DeskCount) (ahead : Text) (k : ℕ) (ended : Ended)
+pub halted : (t : NamedContext) (e lines : ℕ) (a b b' : DuplexState) (c d d' : DeskCount) (ahead : Text) (k : ℕ) (ended : Ended)
     → Goes t e a b c d ahead k → k < lines → Halts t e b b' d d' ahead ended
     → HasServed t e lines a b' c d' ended
 halted t e lines a b b' c d d' ahead k ended x below y =
@@ -414,7 +414,7 @@ halted t e lines a b b' c d d' ahead k ended x below y =
     let fewer : length x.served < lines = omega arith in
     let few = more-few t.context.width e b b' d' ended y.more y.rest y.unsent y.halts in
     let turns = turns_of-append x.served y.more in
-    let sent = (greeting t e ++ replies_of t.attributes x.served) ++ y.sent in
+    let sent = (greeting t e ++ answers_text t.attributes x.served) ++ y.sent in
     record {
       taken = x.taken ++ y.taken;
       sent = sent;
@@ -424,16 +424,16 @@ halted t e lines a b b' c d d' ahead k ended x below y =
         rest = y.rest;
         unsent = y.unsent;
         each = All-append (IsExchange t.context.width e) x.served y.more x.each y.each;
-        order = more-order (IsNotQuit t.context.width) x.served y.more x.asking few;
+        quit_last = more-order (IsNotQuit t.context.width) x.served y.more x.asking few;
         few = let most = more-length x.served y.more few in omega arith;
         lines_taken = ap (λ z. z ++ y.taken) x.read ∙ append_assoc (lines_of x.served) ahead y.taken
             ∙ ap (λ z. lines_of x.served ++ z) y.read
             ∙ sym (append_assoc (lines_of x.served) (lines_of y.more) y.rest)
             ∙ ap (λ z. z ++ y.rest) (sym (lines_of-append x.served y.more));
-        answers_sent = ap (λ z. greeting t e ++ z) (replies_of-append t.attributes x.served y.more
-            ∙ ap (λ z. replies_of t.attributes x.served ++ z) y.said)
-            ∙ sym (append_assoc (greeting t e) (replies_of t.attributes x.served) (y.sent ++ y.unsent))
-            ∙ sym (append_assoc (greeting t e ++ replies_of t.attributes x.served) y.sent y.unsent);
+        answers_sent = ap (λ z. greeting t e ++ z) (answers_text-append t.attributes x.served y.more
+            ∙ ap (λ z. answers_text t.attributes x.served ++ z) y.said)
+            ∙ sym (append_assoc (greeting t e) (answers_text t.attributes x.served) (y.sent ++ y.unsent))
+            ∙ sym (append_assoc (greeting t e ++ answers_text t.attributes x.served) y.sent y.unsent);
         whole = whole_or_failed t.context.width e a b b' d' ended y.more y.rest y.unsent x.moves.write_faults y.halts;
       };
       enters = Enters-equal (sym (entries_of-append x.served y.more)) (sym turns) (Enters-trans x.enters y.enters);

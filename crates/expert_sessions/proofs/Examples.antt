@@ -11,7 +11,7 @@ use Rattle.expert_wire.specs.Greetings.{greeting}
 use Rattle.expert_wire.specs.Replies.{reply_text}
 use Rattle.expert_sessions.specs.declared.said.Said.{Said}
 use Rattle.expert_sessions.specs.declared.said.Said.TheVariants.{Replied, Bye, BadLine, BadWidth, NoMemory}
-use Rattle.expert_sessions.specs.Lines.{HasNoFeed, Exchange, lines_of, replies_of, said_line}
+use Rattle.expert_sessions.specs.Lines.{HasNoFeed, Exchange, lines_of, answers_text, said_line}
 use Rattle.expert_sessions.specs.Order.{OneRead, IsAnswered, AreReadings, ReadsInTurn}
 
 data State : Type 0 where
@@ -57,7 +57,7 @@ module _ (t : NamedContext) (e : ℕ) (answer : Text) where
   abbrev WasAnswered : State → Type 0
   WasAnswered now = IsAnswered left held reads faults faults t e New now
 
-  unanswered : (served : List Exchange) (rest : Text) → [] ≡ replies_of t.attributes served → HasNoFeed rest
+  unanswered : (served : List Exchange) (rest : Text) → [] ≡ answers_text t.attributes served → HasNoFeed rest
       → 120 ∷ 10 ∷ 121 ∷ [] ≡ (lines_of served ++ rest) ++ 121 ∷ [] → ⊥
   unanswered [] rest none unbroken taken =
       let all : 120 ∷ 10 ∷ [] ≡ rest = append_cancel_right (120 ∷ 10 ∷ []) rest (121 ∷ []) taken in
@@ -65,7 +65,7 @@ module _ (t : NamedContext) (e : ℕ) (answer : Text) where
       cc
   unanswered (x ∷ xs) rest none unbroken taken =
       let some = some_said t.attributes x.said in
-      let long = length-append (said_line t.attributes x.said) (replies_of t.attributes xs) in
+      let long = length-append (said_line t.attributes x.said) (answers_text t.attributes xs) in
       let nothing = ap length none in
       absurd (omega arith)
 
@@ -74,7 +74,7 @@ module _ (t : NamedContext) (e : ℕ) (answer : Text) where
   not_ready New one a = cc
   not_ready Greeted one a = cc
   not_ready Ready one a = unanswered a.served a.rest
-      (append_cancel_left (greeting t e) [] (replies_of t.attributes a.served) (append-nil (greeting t e) ∙ a.moves.gained)) a.unbroken
+      (append_cancel_left (greeting t e) [] (answers_text t.attributes a.served) (append-nil (greeting t e) ∙ a.moves.gained)) a.unbroken
       a.moves.lost
   not_ready Past one a = cc
   not_ready Answered one a = cc

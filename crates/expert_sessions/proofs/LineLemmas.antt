@@ -13,7 +13,7 @@ use Rattle.fca_model.specs.Tables.{Text}
 use Rattle.fca_model.specs.declared.TheConstants.{LINE_BYTES}
 use Rattle.fca_model.specs.Exploration.{SetEvent, SetEntry}
 use Rattle.fca_io.specs.declared.outside.Put.{Put}
-use Rattle.fca_io.specs.Faults.{Rose, Asked}
+use Rattle.fca_io.specs.Faults.{Rose, ReadCounts}
 use Rattle.expert_wire.specs.Texts.{line_end}
 use Rattle.expert_wire.specs.Requests.{TakesMemory, request_form}
 use Rattle.expert_wire.specs.declared.requests.Request.{Request}
@@ -21,9 +21,9 @@ use Rattle.expert_wire.specs.declared.requests.Request.TheVariants.{Quit as Quit
 use Rattle.expert_wire.specs.declared.requests.RequestFault.{RequestFault}
 use Rattle.expert_sessions.specs.declared.said.Said.{Said}
 use Rattle.expert_sessions.specs.declared.said.Said.TheVariants.{Replied, Bye, BadLine, BadWidth, NoMemory}
-use Rattle.expert_sessions.specs.Lines.{Asks, LacksMemory, Says, Exchange, IsExchange, lines_of, replies_of, entries_of, turns_of}
+use Rattle.expert_sessions.specs.Lines.{Asks, LacksMemory, Says, Exchange, IsExchange, lines_of, answers_text, entries_of, turns_of}
 use Rattle.expert_sessions.specs.Lines.{said_line, before_last}
-use Rattle.expert_sessions.specs.Moves.{EndState, Moves, IsQuiet}
+use Rattle.expert_sessions.specs.Moves.{DuplexState, Moves, IsQuiet}
 use Rattle.expert_sessions.specs.Courses.{SendsText, HasFeedAt}
 
 -- ---- answers
@@ -91,11 +91,11 @@ lines_of-append [] ys = refl
 lines_of-append (x ∷ xs) ys = ap (λ z. (x.line ++ line_end) ++ z) (lines_of-append xs ys)
     ∙ sym (append_assoc (x.line ++ line_end) (lines_of xs) (lines_of ys))
 
-pub replies_of-append : (attributes : List Text) (xs ys : List Exchange)
-    → replies_of attributes (xs ++ ys) ≡ replies_of attributes xs ++ replies_of attributes ys
-replies_of-append attributes [] ys = refl
-replies_of-append attributes (x ∷ xs) ys = ap (λ z. said_line attributes x.said ++ z) (replies_of-append attributes xs ys)
-    ∙ sym (append_assoc (said_line attributes x.said) (replies_of attributes xs) (replies_of attributes ys))
+pub answers_text-append : (attributes : List Text) (xs ys : List Exchange)
+    → answers_text attributes (xs ++ ys) ≡ answers_text attributes xs ++ answers_text attributes ys
+answers_text-append attributes [] ys = refl
+answers_text-append attributes (x ∷ xs) ys = ap (λ z. said_line attributes x.said ++ z) (answers_text-append attributes xs ys)
+    ∙ sym (append_assoc (said_line attributes x.said) (answers_text attributes xs) (answers_text attributes ys))
 
 pub entries_of-append : (xs ys : List Exchange) → entries_of (xs ++ ys) ≡ entries_of xs ++ entries_of ys
 entries_of-append [] ys = refl
@@ -122,32 +122,32 @@ All-one P x h = All-cons P x [] h (All-nil P)
 -- ---- writes
 
 -- what succeeded was sent whole
-pub sent_whole : {a b : EndState} {text : Text} (r : Result (Unit {0}) Put) → SendsText a b text r → is_err r ≡ false → Moves a b [] text
+pub sent_whole : {a b : DuplexState} {text : Text} (r : Result (Unit {0}) Put) → SendsText a b text r → is_err r ≡ false → Moves a b [] text
 sent_whole {a} {b} {text} (Ok u) w e = subst (λ z. Moves a b [] z)
     (sym (w.split ∙ ap (λ z. w.sent ++ z) w.whole ∙ append-nil w.sent)) w.moves
 sent_whole (Err x) w e = cc
 
-pub sent_quiet : {a b : EndState} {text : Text} (r : Result (Unit {0}) Put) → SendsText a b text r → is_err r ≡ false → IsQuiet a b
+pub sent_quiet : {a b : DuplexState} {text : Text} (r : Result (Unit {0}) Put) → SendsText a b text r → is_err r ≡ false → IsQuiet a b
 sent_quiet (Ok u) w e = record { read_faults = w.read_faults; write_faults = w.quiet }
 sent_quiet (Err x) w e = cc
 
-pub write_rose : {a b : EndState} {text : Text} (r : Result (Unit {0}) Put) → SendsText a b text r → is_err r ≡ true
+pub write_rose : {a b : DuplexState} {text : Text} (r : Result (Unit {0}) Put) → SendsText a b text r → is_err r ≡ true
     → Rose a.write_faults b.write_faults
 write_rose (Ok u) w e = cc
 write_rose (Err x) w e = w.failed
 
 -- what stands beside a sink stays: at an end that is how often it was read, and its count of faults
-module _ (reads reads' : Option ℕ) (faults faults' : ℕ) (aside aside' : Asked) (same : aside' ≡ aside)
+module _ (reads reads' : Option ℕ) (faults faults' : ℕ) (aside aside' : ReadCounts) (same : aside' ≡ aside)
     (before : aside ≡ record { reads = reads; faults = faults }) (after : aside' ≡ record { reads = reads'; faults = faults' }) where
   pub reads-kept : reads' ≡ reads
-  reads-kept = ap (λ (asked : Asked). asked.reads) (sym after ∙ same ∙ before)
+  reads-kept = ap (λ (asked : ReadCounts). asked.reads) (sym after ∙ same ∙ before)
 
   faults-kept : faults' ≡ faults
-  faults-kept = ap (λ (asked : Asked). asked.faults) (sym after ∙ same ∙ before)
+  faults-kept = ap (λ (asked : ReadCounts). asked.faults) (sym after ∙ same ∙ before)
 
 -- a call that writes leaves alone what stands beside a sink: at an end that is what is left to read
-pub writes-from : (a b : EndState) (text : Text) (r : Result (Unit {0}) Put) (other other' : Option Text) (reads reads' : Option ℕ)
-    (aside aside' : Asked)
+pub writes-from : (a b : DuplexState) (text : Text) (r : Result (Unit {0}) Put) (other other' : Option Text) (reads reads' : Option ℕ)
+    (aside aside' : ReadCounts)
     → OnOk r (Appends a.held b.held text) → AppendsFront a.held b.held text → OnOk r (b.write_faults ≡ a.write_faults)
     → OnErr r (Rose a.write_faults b.write_faults) → a.write_faults ≤ b.write_faults → Keeps other other' → aside' ≡ aside
     → other ≡ a.left → other' ≡ b.left → aside ≡ record { reads = reads; faults = a.read_faults }

@@ -9,13 +9,13 @@ use Rattle.fca_io.specs.Faults.{Rose, one_more}
 use Rattle.fca_model.specs.Tables.{Text}
 use Rattle.fca_model.specs.Exploration.{SetEntry}
 use Rattle.expert_gate.specs.Desks.{one_less}
-use Rattle.expert_sessions.specs.Moves.{EndState, Moves, IsQuiet, DeskCount, Enters, TakesTurns, TakesTurnsAtMost}
+use Rattle.expert_sessions.specs.Moves.{DuplexState, Moves, IsQuiet, DeskCount, Enters, TakesTurns, TakesTurnsAtMost}
 use Rattle.expert_sessions.specs.Courses.{ReadsOn}
 
-pub Moves-nil : (a : EndState) → Moves a a [] []
+pub Moves-nil : (a : DuplexState) → Moves a a [] []
 Moves-nil a = record { lost = Consumes-nil a.left; gained = Appends-nil a.held; read_faults = omega arith; write_faults = omega arith }
 
-pub Moves-trans : {a b c : EndState} {t t' s s' : Text} → Moves a b t s → Moves b c t' s' → Moves a c (t ++ t') (s ++ s')
+pub Moves-trans : {a b c : DuplexState} {t t' s s' : Text} → Moves a b t s → Moves b c t' s' → Moves a c (t ++ t') (s ++ s')
 Moves-trans x y = record {
   lost = Consumes-trans _ _ _ _ _ x.lost y.lost;
   gained = Appends-trans _ _ _ _ _ x.gained y.gained;
@@ -23,20 +23,20 @@ Moves-trans x y = record {
   write_faults = let p = x.write_faults in let q = y.write_faults in omega arith;
 }
 
-pub Moves-equal : {a b : EndState} {t t' s s' : Text} → t ≡ t' → s ≡ s' → Moves a b t s → Moves a b t' s'
+pub Moves-equal : {a b : DuplexState} {t t' s s' : Text} → t ≡ t' → s ≡ s' → Moves a b t s → Moves a b t' s'
 Moves-equal {a} {b} {t} {t'} {s} {s'} p q x = subst (λ z. Moves a b t' z) q (subst (λ z. Moves a b z s) p x)
 
-pub IsQuiet-nil : (a : EndState) → IsQuiet a a
+pub IsQuiet-nil : (a : DuplexState) → IsQuiet a a
 IsQuiet-nil a = record { read_faults = refl; write_faults = refl }
 
-pub IsQuiet-trans : {a b c : EndState} → IsQuiet a b → IsQuiet b c → IsQuiet a c
+pub IsQuiet-trans : {a b c : DuplexState} → IsQuiet a b → IsQuiet b c → IsQuiet a c
 IsQuiet-trans x y = record { read_faults = y.read_faults ∙ x.read_faults; write_faults = y.write_faults ∙ x.write_faults }
 
 -- what two calls read stands one behind the other
-pub ReadsOn-nil : (a : EndState) (ahead : Text) → ReadsOn a a ahead ahead
+pub ReadsOn-nil : (a : DuplexState) (ahead : Text) → ReadsOn a a ahead ahead
 ReadsOn-nil a ahead = record { taken = []; moves = Moves-nil a; joined = sym (append-nil ahead); write_faults = refl }
 
-pub ReadsOn-trans : {a b c : EndState} {ahead ahead' ahead'' : Text} → ReadsOn a b ahead ahead' → ReadsOn b c ahead' ahead''
+pub ReadsOn-trans : {a b c : DuplexState} {ahead ahead' ahead'' : Text} → ReadsOn a b ahead ahead' → ReadsOn b c ahead' ahead''
     → ReadsOn a c ahead ahead''
 ReadsOn-trans {a} {b} {c} {ahead} x y = record {
   taken = x.taken ++ y.taken;

@@ -6,7 +6,7 @@ use Rattle.fca_io.specs.Faults.{one_more}
 use Rattle.fca_io.specs.declared.outside.Put.{Put}
 use Rattle.fca_model.specs.Tables.{Text, NamedContext}
 use Rattle.expert_wire.specs.Greetings.{greeting}
-use Rattle.expert_sessions.specs.Lines.{HasNoFeed, lines_of, replies_of}
+use Rattle.expert_sessions.specs.Lines.{HasNoFeed, lines_of, answers_text}
 use Rattle.expert_sessions.specs.Moves.{DeskCount}
 use Rattle.expert_sessions.specs.Courses.{SendsText, ReadsOn, Goes}
 use Rattle.expert_sessions.specs.Order.{OneRead, end_state, ReadsNothing, ReadsOnce, AreReadings, ReadsOnlyWhere, AwaitsLine, ReadsForLine}
@@ -119,6 +119,6 @@ module _ {E : Type 0} (left held : E → Option Text) (reads : E → Option ℕ)
         each = goes.each;
         unbroken = w.unbroken;
         moves = Moves-equal (ap (λ z. z ++ w.taken) goes.read ∙ append_assoc (lines_of goes.served) ahead w.taken)
-            (append-nil (greeting t e ++ replies_of t.attributes goes.served))
+            (append-nil (greeting t e ++ answers_text t.attributes goes.served))
             (Moves-trans goes.moves w.moves);
       }

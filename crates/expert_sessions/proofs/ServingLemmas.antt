@@ -14,11 +14,11 @@ use Rattle.turn_lock.proofs.ClosingLemmas.{length-roll}
 use Rattle.expert_gate.specs.Turns.{HasClosed}
 use Rattle.expert_gate.proofs.SeatLemmas.{EachSeat-length}
 use Rattle.expert_sessions.specs.declared.ended.Ended.{Ended}
-use Rattle.expert_sessions.specs.Moves.{EndState, TakesTurnsAtMost, end_state_of}
+use Rattle.expert_sessions.specs.Moves.{DuplexState, TakesTurnsAtMost, end_state_of}
 use Rattle.expert_sessions.specs.Order.{ReadsInTurn}
 use Rattle.expert_sessions.specs.Talks.{HasTalked}
 use Rattle.expert_gate.specs.Seats.{EachSeat}
-use Rattle.expert_sessions.specs.Serving.{IsReady, HasSat, EachTalks, entered}
+use Rattle.expert_sessions.specs.Serving.{IsReady, HasSat, EachTalks, entries_alone}
 use Rattle.expert_sessions.specs.declared.seats.SessionSeat.{SessionSeat}
 use Rattle.expert_sessions.proofs.TalkLemmas.{untold}
 
@@ -35,17 +35,17 @@ at_number P e p q r holds same number is =
     let badges : badge q ≡ badge p = cc in
     subst P (number ∙ sym (ap (λ (k : Badge Opening). k.number) badges) ∙ sym (ap (λ (k : PassModel Opening SetEntry). k.number) is)) holds
 
-pub at_pass : (t : NamedContext) (e lines : ℕ) (a b : EndState) (p q r : PassModel Opening SetEntry) (gate : Lock Opening) (ended : Ended)
+pub at_pass : (t : NamedContext) (e lines : ℕ) (a b : DuplexState) (p q r : PassModel Opening SetEntry) (gate : Lock Opening) (ended : Ended)
     → HasTalked t e lines a b (record { entries = p.own; left = Some (p.turns - p.made) })
     (record { entries = q.own; left = Some (q.turns - q.made) }) ended
     → TakesTurnsAtMost (lines + 1) (Some (p.turns - p.made)) (Some (q.turns - q.made))
     → Belongs gate p → IsFresh p → Some (badge q) ≡ Some (badge p) → e ≡ p.number → lines + 1 < gate.turns → r ≡ q
-    → HasTalked t r.number lines a b (entered []) (entered r.own) ended
+    → HasTalked t r.number lines a b (entries_alone []) (entries_alone r.own) ended
 at_pass t e lines a b p q r gate ended x taken belongs fresh same number few is =
     let number_is : e ≡ r.number = at_number (λ n. e ≡ n) e p q r refl same number is in
     let own_is : q.own ≡ r.own = sym (ap (λ (k : PassModel Opening SetEntry). k.own) is) in
     let none : p.own ≡ [] = fresh.1 in
-    let y : HasTalked t e lines a b (entered p.own) (entered q.own) ended =
+    let y : HasTalked t e lines a b (entries_alone p.own) (entries_alone q.own) ended =
     untold t e lines a b (record { entries = p.own; left = Some (p.turns - p.made) })
     (record { entries = q.own; left = Some (q.turns - q.made) }) ended x
     (λ spent.
@@ -54,9 +54,9 @@ at_pass t e lines a b p q r gate ended x taken belongs fresh same number few is 
     let made = fresh.2 in
     let most = taken.2 in
     absurd (omega arith)) in
-    subst (λ n. HasTalked t n lines a b (entered []) (entered r.own) ended) number_is
-    (subst (λ es. HasTalked t e lines a b (entered es) (entered r.own) ended) none
-    (subst (λ es. HasTalked t e lines a b (entered p.own) (entered es) ended) own_is y))
+    subst (λ n. HasTalked t n lines a b (entries_alone []) (entries_alone r.own) ended) number_is
+    (subst (λ es. HasTalked t e lines a b (entries_alone es) (entries_alone r.own) ended) none
+    (subst (λ es. HasTalked t e lines a b (entries_alone p.own) (entries_alone es) ended) own_is y))
 
 -- ---- all sessions
 
@@ -92,7 +92,7 @@ module _ {E : Type 0} (left held : E → Option Text) (reads : E → Option ℕ)
   abbrev pub all_ended : List (SessionSeat E) → List Ended
   all_ended seats = map (λ seat. seat.ended) seats
 
-  abbrev end_state : E → EndState
+  abbrev end_state : E → DuplexState
   end_state end = end_state_of left held read_faults write_faults end
 
   -- no session changes a badge
@@ -115,9 +115,9 @@ module _ {E : Type 0} (left held : E → Option Text) (reads : E → Option ℕ)
   each_talks H k (old ∷ olds) (new ∷ news) numbers own_is h =
       let entries : new.pass.own ≡ own H k = sym (All-head (λ p. own H p.number ≡ p.own) new.pass (passes news) own_is)
       ∙ ap (own H) numbers.0 in (
-        subst (λ es. HasTalked t k lines (end_state old.end) (end_state new.end) (entered []) (entered es) new.ended) entries
-            (subst (λ n. HasTalked t n lines (end_state old.end) (end_state new.end) (entered [])
-            (entered new.pass.own) new.ended) numbers.0
+        subst (λ es. HasTalked t k lines (end_state old.end) (end_state new.end) (entries_alone []) (entries_alone es) new.ended) entries
+            (subst (λ n. HasTalked t n lines (end_state old.end) (end_state new.end) (entries_alone [])
+            (entries_alone new.pass.own) new.ended) numbers.0
             h.0.talk),
         subst (λ n. ReadsInTurn left held reads read_faults write_faults t n old.end new.end) numbers.0 h.0.order,
         each_talks H (suc k) olds news numbers.1 (All-tail (λ p. own H p.number ≡ p.own) new.pass (passes news) own_is) h.1,

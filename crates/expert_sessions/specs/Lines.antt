@@ -94,9 +94,9 @@ lines_of [] = []
 lines_of (x ∷ xs) = (x.line ++ line_end) ++ lines_of xs
 
 -- their answers
-abbrev pub replies_of : List Text → List Exchange → Text
-replies_of attributes [] = []
-replies_of attributes (x ∷ xs) = said_line attributes x.said ++ replies_of attributes xs
+abbrev pub answers_text : List Text → List Exchange → Text
+answers_text attributes [] = []
+answers_text attributes (x ∷ xs) = said_line attributes x.said ++ answers_text attributes xs
 
 -- the entries that they made
 abbrev pub entries_of : List Exchange → List SetEntry

@@ -6,26 +6,26 @@ use Rattle.fca_model.specs.Exploration.{SetEntry}
 use Rattle.expert_gate.specs.Desks.{DeskState}
 
 -- an end: the bytes left and the bytes held, if they are known, and its counts of faults
-pub record EndState : Type 0 where
+pub record DuplexState : Type 0 where
   pub left : Option Text
   pub held : Option Text
   pub read_faults : ℕ
   pub write_faults : ℕ
 
 -- of ends that show what is left and what is held, and their counts of faults
-abbrev pub end_state_of : {E : Type 0} → (left held : E → Option Text) (read_faults write_faults : E → ℕ) → E → EndState
+abbrev pub end_state_of : {E : Type 0} → (left held : E → Option Text) (read_faults write_faults : E → ℕ) → E → DuplexState
 end_state_of left held read_faults write_faults end =
     record { left = left end; held = held end; read_faults = read_faults end; write_faults = write_faults end }
 
 -- these bytes were taken, and these were sent
-pub record Moves (a b : EndState) (taken sent : Text) : Type 0 where
+pub record Moves (a b : DuplexState) (taken sent : Text) : Type 0 where
   pub lost : Consumes a.left b.left taken
   pub gained : Appends a.held b.held sent
   pub read_faults : a.read_faults ≤ b.read_faults
   pub write_faults : a.write_faults ≤ b.write_faults
 
 -- no call of the end failed
-pub record IsQuiet (a b : EndState) : Type 0 where
+pub record IsQuiet (a b : DuplexState) : Type 0 where
   pub read_faults : b.read_faults ≡ a.read_faults
   pub write_faults : b.write_faults ≡ a.write_faults
 

@@ -9,8 +9,8 @@ use Rattle.std.specs.Io.KnownBytes.{Appends, Consumes}
 use Rattle.fca_io.specs.Faults.{one_more}
 use Rattle.fca_model.specs.Tables.{Text, NamedContext}
 use Rattle.expert_wire.specs.Greetings.{greeting}
-use Rattle.expert_sessions.specs.Lines.{HasNoFeed, Exchange, IsExchange, lines_of, replies_of}
-use Rattle.expert_sessions.specs.Moves.{EndState, Moves, end_state_of}
+use Rattle.expert_sessions.specs.Lines.{HasNoFeed, Exchange, IsExchange, lines_of, answers_text}
+use Rattle.expert_sessions.specs.Moves.{DuplexState, Moves, end_state_of}
 
 -- an end before and after one read
 pub record OneRead (E : Type 0) : Type 0 where
@@ -19,7 +19,7 @@ pub record OneRead (E : Type 0) : Type 0 where
 
 -- over ends that show what is left and what is held, how often they were read, if they count that, and their counts of faults
 module _ {E : Type 0} (left held : E → Option Text) (reads : E → Option ℕ) (read_faults write_faults : E → ℕ) where
-  abbrev pub end_state : E → EndState
+  abbrev pub end_state : E → DuplexState
   end_state end = end_state_of left held read_faults write_faults end
 
   -- from the state a to the state b the end was not read
@@ -59,7 +59,7 @@ module _ {E : Type 0} (left held : E → Option Text) (reads : E → Option ℕ)
     pub rest : Text
     pub each : All (IsExchange t.context.width e) served
     pub unbroken : HasNoFeed rest
-    pub moves : Moves (end_state first) (end_state now) (lines_of served ++ rest) (greeting t e ++ replies_of t.attributes served)
+    pub moves : Moves (end_state first) (end_state now) (lines_of served ++ rest) (greeting t e ++ answers_text t.attributes served)
 
   -- for a session, the end was read only where each whole line was answered
   abbrev pub ReadsInTurn : NamedContext → ℕ → E → E → Type 0

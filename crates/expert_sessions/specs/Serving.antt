@@ -21,8 +21,8 @@ pub record Suits (gate : Lock Opening) (t : NamedContext) (lines : ℕ) : Type 0
   pub turns : lines + 1 < gate.turns
 
 -- a desk of which only the entries are shown
-abbrev pub entered : List SetEntry → DeskCount
-entered entries = record { entries = entries; left = None }
+abbrev pub entries_alone : List SetEntry → DeskCount
+entries_alone entries = record { entries = entries; left = None }
 
 -- over ends that show what is left and what is held, how often they were read, if they count that, and their counts of faults
 module _ {E : Type 0} (left held : E → Option Text) (reads : E → Option ℕ) (read_faults write_faults : E → ℕ) (t : NamedContext)
@@ -33,7 +33,7 @@ module _ {E : Type 0} (left held : E → Option Text) (reads : E → Option ℕ)
     pub same : badge new.pass ≡ badge old.pass
     pub talk : HasTalked t new.pass.number lines (end_state_of left held read_faults write_faults old.end)
         (end_state_of left held read_faults write_faults new.end)
-        (entered []) (entered new.pass.own) new.ended
+        (entries_alone []) (entries_alone new.pass.own) new.ended
     pub order : ReadsInTurn left held reads read_faults write_faults t new.pass.number old.end new.end
 
   -- expert k has talked over the first end, expert k + 1 over the next, and so on; their entries are their own ones of the
@@ -42,7 +42,7 @@ module _ {E : Type 0} (left held : E → Option Text) (reads : E → Option ℕ)
   EachTalks H k [] [] [] = Unit {0}
   EachTalks H k (a ∷ olds) (b ∷ news) (ended ∷ more) =
       HasTalked t k lines (end_state_of left held read_faults write_faults a) (end_state_of left held read_faults write_faults b)
-      (entered []) (entered (own H k)) ended
+      (entries_alone []) (entries_alone (own H k)) ended
       × ReadsInTurn left held reads read_faults write_faults t k a b
       × EachTalks H (suc k) olds news more
   EachTalks H k _ _ _ = ⊥

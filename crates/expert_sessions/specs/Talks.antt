@@ -11,9 +11,9 @@ use Rattle.fca_model.specs.declared.TheConstants.{LINE_BYTES}
 use Rattle.fca_model.specs.declared.Event.TheVariants.{Leave}
 use Rattle.fca_model.specs.Exploration.{SetReply, SetEntry}
 use Rattle.expert_wire.specs.Greetings.{greeting}
-use Rattle.expert_sessions.specs.Lines.{HasNoFeed, BeginsWithEvent, Exchange, IsExchange, IsQuit, IsNotQuit, lines_of, replies_of}
+use Rattle.expert_sessions.specs.Lines.{HasNoFeed, BeginsWithEvent, Exchange, IsExchange, IsQuit, IsNotQuit, lines_of, answers_text}
 use Rattle.expert_sessions.specs.Lines.{entries_of, turns_of, before_last}
-use Rattle.expert_sessions.specs.Moves.{EndState, Moves, IsQuiet, DeskCount, Enters}
+use Rattle.expert_sessions.specs.Moves.{DuplexState, Moves, IsQuiet, DeskCount, Enters}
 use Rattle.expert_sessions.specs.declared.ended.Ended.{Ended}
 use Rattle.expert_sessions.specs.declared.ended.Ended.TheVariants.{Quit, EndOfInput, ReadFault, WriteFault, LongLine, Limit, Spent, Memory}
 
@@ -24,10 +24,10 @@ pub record LinesServed (t : NamedContext) (e lines : ℕ) (taken sent : Text) (w
   pub rest : Text
   pub unsent : Text
   pub each : All (IsExchange t.context.width e) served
-  pub order : All (IsNotQuit t.context.width) (before_last served)
+  pub quit_last : All (IsNotQuit t.context.width) (before_last served)
   pub few : length served ≤ lines
   pub lines_taken : taken ≡ lines_of served ++ rest
-  pub answers_sent : greeting t e ++ replies_of t.attributes served ≡ sent ++ unsent
+  pub answers_sent : greeting t e ++ answers_text t.attributes served ≡ sent ++ unsent
   pub whole : (unsent ≡ []) ⊎ write_failed
 
 -- ---- what stands behind the lines that were served
@@ -61,9 +61,9 @@ pub record HasQuit (n : ℕ) (served : List Exchange) : Type 0 where
 -- all but the last answer was sent, if a line was served
 abbrev pub LacksLastAnswer : NamedContext → ℕ → List Exchange → Text → Type 0
 LacksLastAnswer t e [] sent = ⊤
-LacksLastAnswer t e (x ∷ xs) sent = (part : Text) × (sent ≡ (greeting t e ++ replies_of t.attributes (before_last (x ∷ xs))) ++ part)
+LacksLastAnswer t e (x ∷ xs) sent = (part : Text) × (sent ≡ (greeting t e ++ answers_text t.attributes (before_last (x ∷ xs))) ++ part)
 
-module _ (t : NamedContext) (e lines : ℕ) (a b : EndState) where
+module _ (t : NamedContext) (e lines : ℕ) (a b : DuplexState) where
   -- why no further line was served, if neither turns nor memory ran out: a call of the end failed only if this is the reason
   abbrev pub Stops : Ended → List Exchange → Text → Text → Text → Type 0
   Stops Quit served rest sent unsent = HasQuit t.context.width served × (unsent ≡ []) × IsQuiet a b
@@ -102,14 +102,14 @@ Makes e Memory entries k made turns = (made ≡ entries) × (turns ≡ k + 1)
 Makes e ended entries k made turns = AndLeaves e entries made × (turns ≡ k + 1)
 
 -- a session that had room for a line
-pub record IsServed (t : NamedContext) (e lines : ℕ) (a b : EndState) (d : DeskCount) (taken : Text) (made : List SetEntry) (turns : ℕ)
+pub record IsServed (t : NamedContext) (e lines : ℕ) (a b : DuplexState) (d : DeskCount) (taken : Text) (made : List SetEntry) (turns : ℕ)
     (sent : Text) (ended : Ended) : Type 0 where
   pub course : LinesServed t e lines taken sent (Rose a.write_faults b.write_faults)
   pub entries : Makes e ended (entries_of course.served) (turns_of course.served) made turns
   pub ending : EndsTalk t e lines a b d ended course.served course.rest sent course.unsent
 
 -- a session that had none
-pub record IsRefused (a b : EndState) (taken : Text) (made : List SetEntry) (turns : ℕ) (sent : Text) (ended : Ended) : Type 0 where
+pub record IsRefused (a b : DuplexState) (taken : Text) (made : List SetEntry) (turns : ℕ) (sent : Text) (ended : Ended) : Type 0 where
   pub nothing_taken : taken ≡ []
   pub nothing_made : made ≡ []
   pub no_turn : turns ≡ 0
@@ -119,12 +119,12 @@ pub record IsRefused (a b : EndState) (taken : Text) (made : List SetEntry) (tur
 
 -- the talk of expert e, who may have this many lines served, over the table and between these two states of the end, which leaves
 -- the desk like d
-abbrev pub Talk : NamedContext → ℕ → ℕ → EndState → EndState → DeskCount → Text → List SetEntry → ℕ → Text → Ended → Type 0
+abbrev pub Talk : NamedContext → ℕ → ℕ → DuplexState → DuplexState → DeskCount → Text → List SetEntry → ℕ → Text → Ended → Type 0
 Talk t e lines a b d taken made turns sent ended = IsRefused a b taken made turns sent ended
     ⊎ IsServed t e lines a b d taken made turns sent ended
 
 -- what the end lost, what was added to the entries of the desk in how many turns, and what the end gained is a talk
-pub record HasTalked (t : NamedContext) (e lines : ℕ) (a b : EndState) (c d : DeskCount) (ended : Ended) : Type 0 where
+pub record HasTalked (t : NamedContext) (e lines : ℕ) (a b : DuplexState) (c d : DeskCount) (ended : Ended) : Type 0 where
   pub taken : Text
   pub made : List SetEntry
   pub turns : ℕ

@@ -24,9 +24,9 @@ pub(crate) fn answer<D: Desk>(
     table: &Table,
     line: &[u8],
 ) -> Result<Said, Ended>
-    requires { D.attributes desk.old ≡ table.now.context.width }
+    requires { D.attribute_count desk.old ≡ table.now.context.width }
     ensures desk { Works (D.state desk.old) (D.state desk.new) }
-    ensures width { D.attributes desk.new ≡ D.attributes desk.old }
+    ensures width { D.attribute_count desk.new ≡ D.attribute_count desk.old }
     ensures answered { IfOk result (λ said. (made : List SetEntry) × (turns : ℕ)
         × Says (D.state desk.old).number (request_form line.now table.now.context.width) said made turns
         × Enters (desk_count_of (D.state desk.old)) (desk_count_of (D.state desk.new)) made turns) }
@@ -35,10 +35,10 @@ pub(crate) fn answer<D: Desk>(
         × (event : SetEvent) × Asks (D.state desk.old).number (request_form line.now table.now.context.width) event) }
 {
     match read_request(alloc, line, table.rows().width()) {
-        Ok(Request::Draw) => outcome(desk.draw()),
-        Ok(Request::Confirm) => outcome(desk.confirm()),
-        Ok(Request::Row { name, row }) => outcome(desk.row(name, row)),
-        Ok(Request::Leave) => outcome(desk.leave()),
+        Ok(Request::Draw) => said_of(desk.draw()),
+        Ok(Request::Confirm) => said_of(desk.confirm()),
+        Ok(Request::Row { name, row }) => said_of(desk.row(name, row)),
+        Ok(Request::Leave) => said_of(desk.leave()),
         Ok(Request::Quit) => Ok(Said::Bye),
         Err(RequestFault::Line) => Ok(Said::BadLine),
         Err(RequestFault::Width) => Ok(Said::BadWidth),
@@ -47,7 +47,7 @@ pub(crate) fn answer<D: Desk>(
 }
 
 /// The answer that a turn comes to, or that no turn was left.
-fn outcome(turn: Result<Reply, TurnFault>) -> Result<Said, Ended>
+fn said_of(turn: Result<Reply, TurnFault>) -> Result<Said, Ended>
     ensures { result ≡ said_of turn }
 {
     match turn {

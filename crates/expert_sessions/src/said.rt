@@ -100,7 +100,7 @@ fn write_at_once<K: Sink>(
     ensures only_rise { K.faults sink.old ≤ K.faults sink.new }
 
     ensures beside { Keeps (K.beside sink.old) (K.beside sink.new) }
-    ensures same_beside { K.asked_beside sink.new ≡ K.asked_beside sink.old }
+    ensures same_beside { K.read_counts_beside sink.new ≡ K.read_counts_beside sink.old }
 {
     let mut line = Draft::new(alloc);
     match line.append_reply(table, reply) {

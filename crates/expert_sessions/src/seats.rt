@@ -8,7 +8,7 @@ ghost use Rattle.expert_sessions.specs.Moves.{end_state_of};
 ghost use Rattle.expert_sessions.specs.Order.{ReadsInTurn};
 ghost use Rattle.expert_sessions.specs.Talks.{HasTalked};
 ghost use Rattle.expert_gate.specs.Seats.{EachSeat};
-ghost use Rattle.expert_sessions.specs.Serving.{IsReady, Suits, HasSat, entered};
+ghost use Rattle.expert_sessions.specs.Serving.{IsReady, Suits, HasSat, entries_alone};
 
 use crate::ended::Ended;
 use crate::talk::session;
@@ -123,7 +123,7 @@ fn serve_one<R: Threads + Wait + Sync, E: Duplex>(
     ensures talk { HasTalked terms.now.table pass.new.number terms.now.lines
         (end_state_of E.Source.left E.Sink.held E.Source.faults E.Sink.faults end.old)
         (end_state_of E.Source.left E.Sink.held E.Source.faults E.Sink.faults end.new)
-        (entered []) (entered pass.new.own) result }
+        (entries_alone []) (entries_alone pass.new.own) result }
     ensures order { ReadsInTurn E.Source.left E.Sink.held E.Source.reads E.Source.faults E.Sink.faults
         terms.now.table pass.new.number end.old end.new }
 {

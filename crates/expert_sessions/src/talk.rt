@@ -28,7 +28,7 @@ pub fn session<D: Desk, E: Duplex>(
     lines: u32,
 ) -> Ended
     requires expert { expert ≡ (D.state desk.old).number }
-    requires width { D.attributes desk.old ≡ table.now.context.width }
+    requires width { D.attribute_count desk.old ≡ table.now.context.width }
     requires lines { (1 ≤ lines) × (lines ≤ MAX_LINES) }
     ensures talk { HasTalked table.now expert lines
         (end_state_of E.Source.left E.Sink.held E.Source.faults E.Sink.faults end.old)
@@ -37,7 +37,7 @@ pub fn session<D: Desk, E: Duplex>(
     ensures order { ReadsInTurn E.Source.left E.Sink.held E.Source.reads E.Source.faults E.Sink.faults table.now expert end.old end.new }
     ensures turns { TakesTurnsAtMost (lines + 1) (D.state desk.old).left (D.state desk.new).left }
     ensures desk { Works (D.state desk.old) (D.state desk.new) }
-    ensures width { D.attributes desk.new ≡ D.attributes desk.old }
+    ensures width { D.attribute_count desk.new ≡ D.attribute_count desk.old }
 {
     let Ok(mut ahead) = ReadAhead::new(alloc) else {
         return Ended::Memory;
@@ -64,14 +64,14 @@ fn serve_lines<D: Desk, E: Duplex>(
 ) -> Ended
     requires none { ahead.old ≡ [] }
     requires expert { expert ≡ (D.state desk.old).number }
-    requires width { D.attributes desk.old ≡ table.now.context.width }
+    requires width { D.attribute_count desk.old ≡ table.now.context.width }
     ensures served { HasServed table.now expert lines
         (end_state_of E.Source.left E.Sink.held E.Source.faults E.Sink.faults end.old)
         (end_state_of E.Source.left E.Sink.held E.Source.faults E.Sink.faults end.new)
         (desk_count_of (D.state desk.old)) (desk_count_of (D.state desk.new)) result }
     ensures order { ReadsInTurn E.Source.left E.Sink.held E.Source.reads E.Source.faults E.Sink.faults table.now expert end.old end.new }
     ensures desk { Works (D.state desk.old) (D.state desk.new) }
-    ensures width { D.attributes desk.new ≡ D.attributes desk.old }
+    ensures width { D.attribute_count desk.new ≡ D.attribute_count desk.old }
 {
     if greet(end, table, expert).is_err() {
         return Ended::WriteFault;
@@ -92,7 +92,7 @@ fn serve_line<D: Desk, E: Duplex>(
     end: &mut E,
     ahead: &mut ReadAhead,
 ) -> Result<(), Ended>
-    requires width { D.attributes desk.old ≡ table.now.context.width }
+    requires width { D.attribute_count desk.old ≡ table.now.context.width }
     ensures served { OnOk result (Serves table.now (D.state desk.old).number
         (end_state_of E.Source.left E.Sink.held E.Source.faults E.Sink.faults end.old)
         (end_state_of E.Source.left E.Sink.held E.Source.faults E.Sink.faults end.new)
@@ -105,7 +105,7 @@ fn serve_line<D: Desk, E: Duplex>(
         ahead.old) }
     ensures order { ReadsForLine E.Source.left E.Sink.held E.Source.reads E.Source.faults E.Sink.faults ahead.old end.old end.new }
     ensures desk { Works (D.state desk.old) (D.state desk.new) }
-    ensures width { D.attributes desk.new ≡ D.attributes desk.old }
+    ensures width { D.attribute_count desk.new ≡ D.attribute_count desk.old }
 {
     let at = ahead.read_line(end)?;
     let said = answer(alloc, desk, table, ahead.line(at))?;

@@ -14,7 +14,7 @@ use Rattle.text_pieces.proofs.MarkLemmas.{marks_of-marks, set_of_marks-marks_of,
 use Rattle.text_pieces.proofs.WordLemmas.{before_first-at, after_first-at}
 use Rattle.expert_wire.specs.Texts.{pattern}
 use Rattle.expert_wire.specs.declared.requests.RequestFault.TheVariants.{Line, Width}
-use Rattle.expert_wire.specs.Words.{is_name, named_row, row_of_width, set_of_pattern}
+use Rattle.expert_wire.specs.Patterns.{is_name, named_row, row_of_width, set_of_pattern}
 
 -- ---- sets
 

@@ -19,7 +19,7 @@ pub use Rattle.text_pieces.proofs.NumeralLemmas.{no_break-decimal}
 use Rattle.text_pieces.proofs.LineLemmas.{lines-line, no_break-faultless}
 use Rattle.expert_wire.specs.Texts.{line_end, ordinal, pattern, names_of, comma_tail, names_in_braces, braces_text, arrow_text, full_text}
 use Rattle.expert_wire.specs.Replies.{attribute_name, numbered_row, numbered_rule, reply_text}
-use Rattle.expert_wire.specs.Words.{is_name}
+use Rattle.expert_wire.specs.Patterns.{is_name}
 use Rattle.expert_wire.specs.Lines.{numbered_lines}
 use Rattle.expert_wire.proofs.LineLemmas.{numbered_lines-skipped}
 use Rattle.expert_wire.proofs.ReadLemmas.{pattern_no_break}

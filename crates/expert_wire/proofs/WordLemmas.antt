@@ -17,7 +17,7 @@ use Rattle.fca_model.specs.Exploration.{is_expert}
 use Rattle.text_pieces.specs.Words.{first_word, later_words}
 use Rattle.expert_wire.specs.declared.requests.RequestFault.{RequestFault}
 use Rattle.expert_wire.specs.declared.requests.RequestFault.TheVariants.{Line, Width, Memory}
-use Rattle.expert_wire.specs.Words.{is_name, named_row, row_of_width, set_of_pattern}
+use Rattle.expert_wire.specs.Patterns.{is_name, named_row, row_of_width, set_of_pattern}
 
 -- a number of more than 64 bits is no expert's
 pub no_expert : (n : ℕ) → 2 ^ 64 ≤ n → None ≡ cond (is_expert n) (Some n) None

@@ -10,12 +10,12 @@ use Rattle.std.specs.Prelude.{OnOk, OnErr}
 use Rattle.std.specs.Io.KnownBytes.{Appends}
 use Rattle.std.proofs.KnownBytes.{Appends-nil, Appends-trans, Keeps-refl, Keeps-trans}
 use Rattle.std.proofs.Math.Nat.{min-le_left, min-le_right, le-min}
-use Rattle.fca_io.specs.Faults.{Rose, Asked, one_more}
+use Rattle.fca_io.specs.Faults.{Rose, ReadCounts, one_more}
 use Rattle.fca_io.specs.declared.outside.Put.{Put}
 use Rattle.fca_model.specs.Tables.{Text}
 use Rattle.expert_wire.specs.Parts.{Writes}
 
-pub Writes-nothing : (held : Option Text) (faults : ℕ) (other : Option Text) (aside : Asked)
+pub Writes-nothing : (held : Option Text) (faults : ℕ) (other : Option Text) (aside : ReadCounts)
     → Writes held held faults faults other other aside aside [] (Ok tt)
 Writes-nothing held faults other aside = record {
   whole = Appends-nil held;
@@ -34,7 +34,7 @@ Rose-later a b c h r =
     let both : one_more a ≤ one_more b = le-min (omega arith) high in
     omega arith
 
-pub Writes-then : {h0 h1 h2 : Option Text} {f0 f1 f2 : ℕ} {o0 o1 o2 : Option Text} {a0 a1 a2 : Asked} {s t : Text}
+pub Writes-then : {h0 h1 h2 : Option Text} {f0 f1 f2 : ℕ} {o0 o1 o2 : Option Text} {a0 a1 a2 : ReadCounts} {s t : Text}
     (r : Result (Unit {0}) Put)
     → Writes h0 h1 f0 f1 o0 o1 a0 a1 s (Ok tt) → Writes h1 h2 f1 f2 o1 o2 a1 a2 t r → Writes h0 h2 f0 f2 o0 o2 a0 a2 (s ++ t) r
 Writes-then {h0} {h1} {h2} {f0} {f1} {f2} {o0} {o1} {o2} {a0} {a1} {a2} {s} {t} r x y = record {
@@ -64,7 +64,7 @@ Writes-then {h0} {h1} {h2} {f0} {f1} {f2} {o0} {o1} {o2} {a0} {a1} {a2} {s} {t} 
     failed (Ok u) h = tt
     failed (Err e) h = Rose-later f0 f1 f2 x.only_rise h
 
-pub Writes-front : {h0 h1 : Option Text} {f0 f1 : ℕ} {o0 o1 : Option Text} {a0 a1 : Asked} {s : Text} (t : Text) (e : Put)
+pub Writes-front : {h0 h1 : Option Text} {f0 f1 : ℕ} {o0 o1 : Option Text} {a0 a1 : ReadCounts} {s : Text} (t : Text) (e : Put)
     → Writes h0 h1 f0 f1 o0 o1 a0 a1 s (Err e) → Writes h0 h1 f0 f1 o0 o1 a0 a1 (s ++ t) (Err e)
 Writes-front {s = s} t e x = record {
   whole = tt;
@@ -81,25 +81,25 @@ Writes-front {s = s} t e x = record {
   same_beside = x.same_beside;
 }
 
-pub Writes-equal : {h h' : Option Text} {f f' : ℕ} {o o' : Option Text} {a a' : Asked} {s t : Text} {r : Result (Unit {0}) Put}
+pub Writes-equal : {h h' : Option Text} {f f' : ℕ} {o o' : Option Text} {a a' : ReadCounts} {s t : Text} {r : Result (Unit {0}) Put}
     → s ≡ t → Writes h h' f f' o o' a a' s r → Writes h h' f f' o o' a a' t r
 Writes-equal {h} {h'} {f} {f'} {o} {o'} {a} {a'} {r = r} e x = subst (λ z. Writes h h' f f' o o' a a' z r) e x
 
 -- ---- a text that is written by several calls
 
-pub record Underway (h h' : Option Text) (f f' : ℕ) (o o' : Option Text) (a a' : Asked) (whole rest : Text) : Type 0 where
+pub record Underway (h h' : Option Text) (f f' : ℕ) (o o' : Option Text) (a a' : ReadCounts) (whole rest : Text) : Type 0 where
   pub done : Text
   pub written : Writes h h' f f' o o' a a' done (Ok tt)
   pub split : done ++ rest ≡ whole
 
-pub Underway-start : (h : Option Text) (f : ℕ) (o : Option Text) (a : Asked) (whole : Text) → Underway h h f f o o a a whole whole
+pub Underway-start : (h : Option Text) (f : ℕ) (o : Option Text) (a : ReadCounts) (whole : Text) → Underway h h f f o o a a whole whole
 Underway-start h f o a whole = record { done = []; written = Writes-nothing h f o a; split = refl }
 
-pub Underway-equal : {h h' : Option Text} {f f' : ℕ} {o o' : Option Text} {a a' : Asked} {whole rest rest' : Text}
+pub Underway-equal : {h h' : Option Text} {f f' : ℕ} {o o' : Option Text} {a a' : ReadCounts} {whole rest rest' : Text}
     → rest ≡ rest' → Underway h h' f f' o o' a a' whole rest → Underway h h' f f' o o' a a' whole rest'
 Underway-equal {whole = whole} e x = record { done = x.done; written = x.written; split = subst (λ z. x.done ++ z ≡ whole) e x.split }
 
-pub Underway-more : {h h1 h' : Option Text} {f f1 f' : ℕ} {o o1 o' : Option Text} {a a1 a' : Asked} {whole : Text} (s rest : Text)
+pub Underway-more : {h h1 h' : Option Text} {f f1 f' : ℕ} {o o1 o' : Option Text} {a a1 a' : ReadCounts} {whole : Text} (s rest : Text)
     → Underway h h1 f f1 o o1 a a1 whole (s ++ rest) → Writes h1 h' f1 f' o1 o' a1 a' s (Ok tt) → Underway h h' f f' o o' a a' whole rest
 Underway-more s rest x y = record {
   done = x.done ++ s;
@@ -107,20 +107,20 @@ Underway-more s rest x y = record {
   split = append_assoc x.done s rest ∙ x.split;
 }
 
-pub Underway-fault : {h h1 h' : Option Text} {f f1 f' : ℕ} {o o1 o' : Option Text} {a a1 a' : Asked} {whole : Text} (s rest : Text)
+pub Underway-fault : {h h1 h' : Option Text} {f f1 f' : ℕ} {o o1 o' : Option Text} {a a1 a' : ReadCounts} {whole : Text} (s rest : Text)
     (e : Put)
     → Underway h h1 f f1 o o1 a a1 whole (s ++ rest) → Writes h1 h' f1 f' o1 o' a1 a' s (Err e) → Writes h h' f f' o o' a a' whole (Err e)
 Underway-fault {h} {h1} {h'} {f} {f1} {f'} {o} {o1} {o'} {a} {a1} {a'} {whole} s rest e x y =
     subst (λ z. Writes h h' f f' o o' a a' z (Err e)) (append_assoc x.done s rest ∙ x.split)
     (Writes-front rest e (Writes-then (Err e) x.written y))
 
-pub Underway-last : {h h1 h' : Option Text} {f f1 f' : ℕ} {o o1 o' : Option Text} {a a1 a' : Asked} {whole s : Text}
+pub Underway-last : {h h1 h' : Option Text} {f f1 f' : ℕ} {o o1 o' : Option Text} {a a1 a' : ReadCounts} {whole s : Text}
     (r : Result (Unit {0}) Put)
     → Underway h h1 f f1 o o1 a a1 whole s → Writes h1 h' f1 f' o1 o' a1 a' s r → Writes h h' f f' o o' a a' whole r
 Underway-last {h} {h1} {h'} {f} {f1} {f'} {o} {o1} {o'} {a} {a1} {a'} r x y =
     subst (λ z. Writes h h' f f' o o' a a' z r) x.split (Writes-then r x.written y)
 
-pub Underway-end : {h h' : Option Text} {f f' : ℕ} {o o' : Option Text} {a a' : Asked} {whole : Text}
+pub Underway-end : {h h' : Option Text} {f f' : ℕ} {o o' : Option Text} {a a' : ReadCounts} {whole : Text}
     → Underway h h' f f' o o' a a' whole [] → Writes h h' f f' o o' a a' whole (Ok tt)
 Underway-end {h} {h'} {f} {f'} {o} {o'} {a} {a'} x =
     subst (λ z. Writes h h' f f' o o' a a' z (Ok tt)) (sym (append-nil x.done) ∙ x.split) x.written

@@ -9,7 +9,7 @@ use Rattle.expert_wire.specs.declared.requests.Request.TheVariants.{Draw, Confir
 use Rattle.expert_wire.specs.declared.requests.RequestFault.{RequestFault}
 use Rattle.expert_wire.specs.declared.requests.RequestFault.TheVariants.{Line}
 use Rattle.text_pieces.specs.Words.{first_word, later_words}
-use Rattle.expert_wire.specs.Words.{named_row}
+use Rattle.expert_wire.specs.Patterns.{named_row}
 
 -- the request to record a row
 abbrev pub row_request : Result (Text × Set) RequestFault → Result Request RequestFault

@@ -160,7 +160,7 @@ impl Sink for Growing {
 
     ghost beside = { λ _. None };
 
-    ghost asked_beside = { λ _. record { reads = None; faults = 0 } };
+    ghost read_counts_beside = { λ _. record { reads = None; faults = 0 } };
 
     fn write(&mut self, from: &[u8]) -> Result<usize, Failed> {
         match self.bytes.extend_from_slice(from) {

@@ -10,7 +10,7 @@ use fca_io::{Put, Sink};
 
 /// Writes the greeting of the expert, part by part. It takes no memory. After an `Err` the sink has gained a front of the greeting.
 pub fn write_greeting<K: Sink>(sink: &mut K, table: &Table, expert: u8) -> Result<(), Put>
-    ensures { WritesTo K.held K.faults K.beside K.asked_beside sink.old sink.new (greeting table.now expert) result }
+    ensures { WritesTo K.held K.faults K.beside K.read_counts_beside sink.old sink.new (greeting table.now expert) result }
 {
     let width = table.rows().width();
     write_parts(

@@ -16,4 +16,4 @@ pub use lines::is_skipped;
 pub use parts::{Part, write_bytes};
 pub use replies::write_reply;
 pub use requests::{Request, RequestFault, read_request};
-pub use words::{pattern_marks, read_row, small_number, utf8_text};
+pub use words::{expert_number, pattern_marks, read_row, utf8_text};

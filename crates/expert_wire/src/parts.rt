@@ -32,7 +32,7 @@ pub enum Part<'a> {
 
 /// Writes the parts in order. It takes no memory.
 pub fn write_parts<K: Sink>(sink: &mut K, table: &Table, parts: &[Part<'_>]) -> Result<(), Put>
-    ensures { WritesTo K.held K.faults K.beside K.asked_beside sink.old sink.new (parts_text table.now.attributes parts.now) result }
+    ensures { WritesTo K.held K.faults K.beside K.read_counts_beside sink.old sink.new (parts_text table.now.attributes parts.now) result }
 {
     for part in parts {
         write_part(sink, table, part)?;
@@ -41,7 +41,7 @@ pub fn write_parts<K: Sink>(sink: &mut K, table: &Table, parts: &[Part<'_>]) -> 
 }
 
 fn write_part<K: Sink>(sink: &mut K, table: &Table, part: &Part<'_>) -> Result<(), Put>
-    ensures { WritesTo K.held K.faults K.beside K.asked_beside sink.old sink.new (part_text table.now.attributes part.now) result }
+    ensures { WritesTo K.held K.faults K.beside K.read_counts_beside sink.old sink.new (part_text table.now.attributes part.now) result }
 {
     match part {
         Part::Bytes(bytes) => write_bytes(sink, bytes),
@@ -57,13 +57,13 @@ fn write_part<K: Sink>(sink: &mut K, table: &Table, part: &Part<'_>) -> Result<(
 
 /// Writes the bytes. It takes no memory. After an `Err` the sink has gained a front of them.
 pub fn write_bytes<K: Sink>(sink: &mut K, bytes: &[u8]) -> Result<(), Put>
-    ensures { WritesTo K.held K.faults K.beside K.asked_beside sink.old sink.new bytes.now result }
+    ensures { WritesTo K.held K.faults K.beside K.read_counts_beside sink.old sink.new bytes.now result }
 {
     write_text(sink, bytes)
 }
 
 fn write_pattern<K: Sink>(sink: &mut K, set: &Attrs) -> Result<(), Put>
-    ensures { WritesTo K.held K.faults K.beside K.asked_beside sink.old sink.new (pattern set.now) result }
+    ensures { WritesTo K.held K.faults K.beside K.read_counts_beside sink.old sink.new (pattern set.now) result }
 {
     let width = set.width();
     if width == 0 {
@@ -74,7 +74,7 @@ fn write_pattern<K: Sink>(sink: &mut K, set: &Attrs) -> Result<(), Put>
 }
 
 fn write_braces<K: Sink>(sink: &mut K, table: &Table, set: &Attrs) -> Result<(), Put>
-    ensures { WritesTo K.held K.faults K.beside K.asked_beside sink.old sink.new (braces_text table.now.attributes set.now) result }
+    ensures { WritesTo K.held K.faults K.beside K.read_counts_beside sink.old sink.new (braces_text table.now.attributes set.now) result }
 {
     write_bytes(sink, b"{")?;
     let mut between = b"".as_slice();
@@ -89,7 +89,7 @@ fn write_braces<K: Sink>(sink: &mut K, table: &Table, set: &Attrs) -> Result<(),
 }
 
 fn write_both<K: Sink>(sink: &mut K, first: &[u8], second: &[u8]) -> Result<(), Put>
-    ensures { WritesTo K.held K.faults K.beside K.asked_beside sink.old sink.new (first.now ++ second.now) result }
+    ensures { WritesTo K.held K.faults K.beside K.read_counts_beside sink.old sink.new (first.now ++ second.now) result }
 {
     write_bytes(sink, first)?;
     write_bytes(sink, second)

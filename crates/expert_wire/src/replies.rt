@@ -25,7 +25,7 @@ pub fn write_reply<K: Sink>(sink: &mut K, table: &Table, reply: &Reply<Attrs>) -
     ensures only_rise { K.faults sink.old ≤ K.faults sink.new }
 
     ensures beside { Keeps (K.beside sink.old) (K.beside sink.new) }
-    ensures same_beside { K.asked_beside sink.new ≡ K.asked_beside sink.old }
+    ensures same_beside { K.read_counts_beside sink.new ≡ K.read_counts_beside sink.old }
 {
     match reply {
         Reply::Ask(question) => write_full_text(sink, table, b"ask ", question),
@@ -52,14 +52,14 @@ pub fn write_reply<K: Sink>(sink: &mut K, table: &Table, reply: &Reply<Attrs>) -
 
 /// Writes a line of the words alone.
 pub(crate) fn write_words<K: Sink>(sink: &mut K, table: &Table, words: &[u8]) -> Result<(), Put>
-    ensures { WritesTo K.held K.faults K.beside K.asked_beside sink.old sink.new (words.now ++ line_end) result }
+    ensures { WritesTo K.held K.faults K.beside K.read_counts_beside sink.old sink.new (words.now ++ line_end) result }
 {
     write_parts(sink, table, &[Part::Bytes(words), Part::Bytes(b"\n")])
 }
 
 /// Writes a line: the words, and the number of the place.
 fn write_place<K: Sink>(sink: &mut K, table: &Table, words: &[u8], place: usize) -> Result<(), Put>
-    ensures { WritesTo K.held K.faults K.beside K.asked_beside sink.old sink.new ((words.now ++ ordinal place) ++ line_end) result }
+    ensures { WritesTo K.held K.faults K.beside K.read_counts_beside sink.old sink.new ((words.now ++ ordinal place) ++ line_end) result }
 {
     write_parts(
         sink,
@@ -76,7 +76,7 @@ fn write_row<K: Sink>(
     place: usize,
     row: &Attrs,
 ) -> Result<(), Put>
-    ensures { WritesTo K.held K.faults K.beside K.asked_beside sink.old sink.new
+    ensures { WritesTo K.held K.faults K.beside K.read_counts_beside sink.old sink.new
         ((words.now ++ numbered_row place row.now) ++ line_end) result }
 {
     write_parts(
@@ -100,7 +100,7 @@ pub(crate) fn write_rule<K: Sink>(
     place: usize,
     rule: &Implication,
 ) -> Result<(), Put>
-    ensures { WritesTo K.held K.faults K.beside K.asked_beside sink.old sink.new
+    ensures { WritesTo K.held K.faults K.beside K.read_counts_beside sink.old sink.new
         ((words.now ++ numbered_rule table.now.attributes place rule.now) ++ line_end) result }
 {
     write_parts(
@@ -118,7 +118,7 @@ pub(crate) fn write_full_text<K: Sink>(
     words: &[u8],
     implication: &Implication,
 ) -> Result<(), Put>
-    ensures { WritesTo K.held K.faults K.beside K.asked_beside sink.old sink.new
+    ensures { WritesTo K.held K.faults K.beside K.read_counts_beside sink.old sink.new
         ((words.now ++ full_text table.now.attributes implication.now) ++ line_end) result }
 {
     let gained = implication.conclusion.minus(&implication.premise);
@@ -141,7 +141,7 @@ pub(crate) fn write_full_text<K: Sink>(
 
 /// Writes the line of the attribute that a row lacks: its number and its name.
 fn write_misses<K: Sink>(sink: &mut K, table: &Table, attribute: u32) -> Result<(), Put>
-    ensures { WritesTo K.held K.faults K.beside K.asked_beside sink.old sink.new
+    ensures { WritesTo K.held K.faults K.beside K.read_counts_beside sink.old sink.new
         ((codes "misses " ++ (ordinal attribute ++ (codes " " ++ attribute_name table.now.attributes attribute))) ++ line_end) result }
 {
     write_parts(

@@ -6,7 +6,7 @@ ghost use Rattle.fca_model.specs.declared.TheConstants.{MAX_ATTRIBUTES};
 ghost use Rattle.fca_model.specs.Exploration.{is_expert};
 ghost use Rattle.text_pieces.specs.Marks.{is_cross};
 ghost use Rattle.text_pieces.specs.Numerals.{is_numeral, value_of};
-ghost use Rattle.expert_wire.specs.Words.{set_of_pattern, named_row};
+ghost use Rattle.expert_wire.specs.Patterns.{set_of_pattern, named_row};
 
 use crate::RequestFault;
 use attr_bits::Attrs;
@@ -22,18 +22,18 @@ pub fn utf8_text(bytes: &[u8]) -> Option<&str>
 }
 
 /// The number of an expert, if the digits write one.
-pub fn small_number(digits: &str) -> Option<u8>
+pub fn expert_number(digits: &str) -> Option<u8>
     requires { is_numeral digits.now ≡ true }
     ensures { result ≡ cond (is_expert (value_of digits.now)) (Some (value_of digits.now)) None }
 {
     match value_of(digits.as_bytes()) {
-        Some(number) => as_small(number),
+        Some(number) => as_expert(number),
         None => None,
     }
 }
 
 /// The number as that of an expert, if it is one.
-fn as_small(number: u64) -> Option<u8>
+fn as_expert(number: u64) -> Option<u8>
     ensures { result ≡ cond (is_expert number) (Some number) None }
 {
     if 1 <= number && number <= u64::from(MAX_EXPERTS) {

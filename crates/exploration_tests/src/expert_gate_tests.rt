@@ -85,7 +85,7 @@ fn a_gate_of_one_turn_is_spent(rt: HostRuntime) -> Result<(), Fail> {
 
 /// A counterexample, an implication, and the leave.
 fn explored<D: Desk>(desk: &mut D, name: Name) -> Result<[Reply; 5], TurnFault>
-    requires { D.attributes desk.old ≡ 2 }
+    requires { D.attribute_count desk.old ≡ 2 }
 {
     Ok([
         desk.draw()?,

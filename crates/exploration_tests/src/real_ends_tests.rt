@@ -15,7 +15,7 @@ use std::test::Fail;
 use std::thread::{Threads, join};
 
 /// Listens at the first port that is free, and answers the address.
-fn listening<L: Listener>(alloc: Global, link: &mut L) -> Option<String>
+fn listen_at_free_port<L: Listener>(alloc: Global, link: &mut L) -> Option<String>
     requires { L.listens link.old ≡ false }
     ensures { IfSome result (λ _. L.listens link.new ≡ true) }
 {
@@ -28,19 +28,22 @@ fn listening<L: Listener>(alloc: Global, link: &mut L) -> Option<String>
     None
 }
 
-/// The next bytes that an expert is told who says the line.
-fn told<const N: usize>(stream: &mut TcpStream, line: &[u8]) -> io::Result<[u8; N]> {
+/// The next bytes that an expert is exchange_line who says the line.
+fn exchange_line<const N: usize>(stream: &mut TcpStream, line: &[u8]) -> io::Result<[u8; N]> {
     stream.write_all(line)?;
     let mut bytes = [0; N];
     stream.read_exact(&mut bytes)?;
     Ok(bytes)
 }
 
-/// What two experts are told who both draw, before the first of them quits and the second draws again.
+/// What two experts are exchange_line who both draw, before the first of them quits and the second draws again.
 fn draw_and_quit(mut first: TcpStream, mut second: TcpStream) -> io::Result<[[u8; 63]; 2]> {
-    let asked = [told(&mut first, b"draw\n")?, told(&mut second, b"draw\n")?];
-    let _bye: [u8; 4] = told(&mut first, b"quit\n")?;
-    let _asked: [u8; 23] = told(&mut second, b"draw\n")?;
+    let asked = [
+        exchange_line(&mut first, b"draw\n")?,
+        exchange_line(&mut second, b"draw\n")?,
+    ];
+    let _bye: [u8; 4] = exchange_line(&mut first, b"quit\n")?;
+    let _asked: [u8; 23] = exchange_line(&mut second, b"draw\n")?;
     Ok(asked)
 }
 
@@ -64,7 +67,7 @@ fn serve_both<R: Threads + Wait + Sync, E: Duplex + Send + Drop>(
 fn sessions_run_at_once_over_sockets(rt: HostRuntime) -> Result<(), Fail> {
     let alloc = rt.alloc();
     let mut link = TcpLink::new(&rt);
-    let Some(address) = listening(alloc, &mut link) else {
+    let Some(address) = listen_at_free_port(alloc, &mut link) else {
         return Err("no port is free".into());
     };
     let first = TcpStream::connect(&rt, address.as_str())?;

@@ -69,7 +69,7 @@ impl Source for Client<'_> {
 }
 
 impl Sink for Client<'_> {
-    ghost use Rattle.fca_io.specs.Faults.{Asked};
+    ghost use Rattle.fca_io.specs.Faults.{ReadCounts};
 
     ghost held = { λ _. None };
 
@@ -79,7 +79,7 @@ impl Sink for Client<'_> {
 
     ghost whole_writes = { λ _. None };
 
-    ghost asked_beside = { λ _. record { reads = None; faults = 0 } };
+    ghost read_counts_beside = { λ _. record { reads = None; faults = 0 } };
 
     fn write(&mut self, from: &[u8]) -> Result<usize, Failed> {
         if from.starts_with(b"ask ") {

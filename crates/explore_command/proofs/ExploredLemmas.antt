@@ -35,7 +35,7 @@ use Rattle.expert_panel.specs.Explorations.{IsOraclesShare, EachNumbered, HasAgr
 use Rattle.explore_state.specs.History.{Opening, ExploreModel, opening_state, state_of, open_of}
 use Rattle.basis_report.specs.Comments.{comments as comments_of, are_lines, AreComments}
 use Rattle.expert_scripts.specs.Transcripts.{SettingsCanBeWritten, transcript}
-use Rattle.basis_report.specs.Explorations.{recorded_section, accepted_section, open_section, basis_lines, state_of_text, explore_text}
+use Rattle.basis_report.specs.Explorations.{recorded_section, accepted_section, open_section, basis_lines, state_of_history, explore_text}
 use Rattle.basis_report.specs.Explorations.{text_before_basis, Spells, SpellsBefore}
 use Rattle.basis_report.specs.Conflicts.{dropped_rows_at, dropped_rows_of, dropped_rows_from, conflicts_section, conflicts_text}
 use Rattle.basis_report.proofs.OrderLemmas.{finished_text}
@@ -212,13 +212,13 @@ regrouped t r a o b c = simp append_assoc
 -- the text of an exploration at whose end no question is open, before such conflicts
 agreed_text : (T : NamedContext) (G : Settings) (H : List SetEntry) (C : Context) (conflicts : Text) → rows_respect G.known T.context ≡ true
     → IsLegal (opening T.context T.objects G) H
-    → open_questions G.known (state_of_text T G H).context (state_of_text T G H).accepted ≡ []
-    → basis_known G.known (state_of_text T G H).context ≡ basis_known G.known C
+    → open_questions G.known (state_of_history T G H).context (state_of_history T G H).accepted ≡ []
+    → basis_known G.known (state_of_history T G H).context ≡ basis_known G.known C
     → explore_text T G H ++ conflicts
-    ≡ (transcript T.attributes G H ++ (recorded_section H ++ accepted_section T.attributes (length G.known) (state_of_text T G H).accepted))
+    ≡ (transcript T.attributes G H ++ (recorded_section H ++ accepted_section T.attributes (length G.known) (state_of_history T G H).accepted))
     ++ (open_section T.attributes [] ++ (basis_lines T.attributes (basis_known G.known C) ++ conflicts))
 agreed_text T G H C conflicts respected legal done same =
-    let s = state_of_text T G H in
+    let s = state_of_history T G H in
     let settled : s.settings.known ≡ G.known = ap (λ (x : Settings). x.known)
     (run_settings (opening T.context T.objects G) (events_of H)) in
     let none : open_in s ≡ [] = ap (λ K. open_questions K s.context s.accepted) settled ∙ done in
@@ -252,7 +252,7 @@ agreed-explored p explore oracles spent text explored whole C same part respecte
     let legal : IsLegal (opening_state o) H = subst (λ (x : Opening). IsLegal (opening_state x) H) explored.opening explored.legal in
     let done : last_open (exploring_record p H) ≡ [] = subst
     (λ (x : Opening). open_of (record { opening = x; journal = H; spare = 0 }) ≡ []) explored.opening (explored.finished unspent) in
-    let same_basis : basis_known p.settings.known (state_of_text p.table p.settings H).context ≡ B =
+    let same_basis : basis_known p.settings.known (state_of_history p.table p.settings H).context ≡ B =
     subst (λ (x : Opening). basis_known x.settings.known (state_after (opening_state x) (events_of H)).context
     ≡ basis_known x.settings.known C) explored.opening (agreed.basis unspent) in
     let J = rules_of (state_of explore) in

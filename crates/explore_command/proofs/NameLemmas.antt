@@ -18,7 +18,7 @@ use Rattle.fca_model.specs.Tables.{NamedContext}
 use Rattle.implication_closure.specs.Closing.{HaveWidth}
 use Rattle.explore_state.specs.Faults.{first_break}
 use Rattle.explore_state.proofs.OpenLemmas.{unbroken_rows}
-use Rattle.expert_wire.specs.Words.{is_name}
+use Rattle.expert_wire.specs.Patterns.{is_name}
 use Rattle.expert_wire.proofs.SkipLemmas.{no_fault}
 use Rattle.expert_scripts.specs.Transcripts.{AreExpertNames}
 use Rattle.expert_scripts.proofs.NamedLemmas.{AreBelow, below-more, below-push, insert-last}

@@ -21,7 +21,7 @@ use Rattle.command_io.specs.Forms.{table_read}
 use Rattle.command_io.specs.declared.stop.Origin.{Origin}
 use Rattle.command_io.specs.declared.stop.Origin.TheVariants.{Later}
 use Rattle.command_io.specs.declared.stop.Stop.{Stop}
-use Rattle.command_io.specs.declared.stop.Stop.TheVariants.{Fault, Memory}
+use Rattle.command_io.specs.declared.stop.Stop.TheVariants.{ReadFault, Memory}
 
 -- ---- names
 
@@ -181,7 +181,7 @@ refused-file table files i file tells now counts before inside is same on may =
 -- a file is at fault where a count rose for it
 IsFileStop-more : (name : Text) (told : Told) (rose rose' : Type 0) (origin : Origin) (s : Stop) → (rose → rose')
     → IsFileStop name told rose origin s → IsFileStop name told rose' origin s
-IsFileStop-more name told rose rose' origin (Fault at) more is = (is.0, more is.1)
+IsFileStop-more name told rose rose' origin (ReadFault at) more is = (is.0, more is.1)
 IsFileStop-more name told rose rose' origin _ more is = is
 
 -- the shelf tells the same later, and a count that rose since then rose since before

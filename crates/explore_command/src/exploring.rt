@@ -7,7 +7,7 @@ ghost use Rattle.exploration_terms.specs.Settings.{settings_of};
 ghost use Rattle.basis_report.specs.Explorations.{Spells};
 ghost use Rattle.expert_scripts.specs.Transcripts.{SettingsCanBeWritten};
 ghost use Rattle.command_io.specs.Readings.{MayRefuse, Rises, SameCounts};
-ghost use Rattle.command_io.specs.Causes.{UnlessFault};
+ghost use Rattle.command_io.specs.Causes.{UnlessReadFault};
 ghost use Rattle.command_io.specs.Readings.Reading.{Read};
 ghost use Rattle.command_io.specs.Explorations.{opening_of};
 ghost use Rattle.command_io.specs.Endings.{IsRefusal};
@@ -42,7 +42,7 @@ pub fn explore<R: Threads + Wait + Sync, H: Shelf>(
     ensures refused { IfErr result (λ stop. IsRefusal stop → MayRefuse (explore_read file.now (option_copied known.entry) wants_names files.now (H.tells shelf.old))) }
     ensures cause { IfErr result (IsExploreStop file.now (option_copied known.entry) files.now (H.tells shelf.old)
         (Rises (H.faults shelf.old) (H.faults shelf.new))) }
-    ensures quiet { UnlessFault result (SameCounts (H.faults shelf.old) (H.faults shelf.new)) }
+    ensures quiet { UnlessReadFault result (SameCounts (H.faults shelf.old) (H.faults shelf.new)) }
     ensures few { RoseAtMost (H.fetches shelf.old) (H.fetches shelf.new) (length (file.now ∷ option_to_list (option_copied known.entry) ++ files.now)) }
 {
     let start = load_explore_start(alloc, shelf, file, known, wants_names, files)?;

@@ -7,7 +7,7 @@ ghost use Rattle.std.specs.Str.{is_utf8};
 ghost use Rattle.fca_model.specs.declared.TheConstants.{MAX_EXPERTS};
 ghost use Rattle.fca_model.specs.Exploration.{is_expert};
 ghost use Rattle.exploration_terms.specs.Settings.{name_of};
-ghost use Rattle.expert_wire.specs.Words.{is_name};
+ghost use Rattle.expert_wire.specs.Patterns.{is_name};
 ghost use Rattle.explore_command.specs.Starts.{is_named, names_by_files};
 
 use expert_wire::utf8_text;

@@ -6,7 +6,7 @@ ghost use Rattle.std.specs.Option.{option_map};
 ghost use Rattle.fca_io.specs.Faults.{RoseAtMost, one_more};
 ghost use Rattle.fca_model.specs.Exploration.{is_expert};
 ghost use Rattle.command_io.specs.Readings.{MayRead, MayRefuse, Rises, SameCounts};
-ghost use Rattle.command_io.specs.Causes.{UnlessFault};
+ghost use Rattle.command_io.specs.Causes.{UnlessReadFault};
 ghost use Rattle.command_io.specs.Endings.{IsRefusal};
 ghost use Rattle.fca_model.specs.declared.TheConstants.{MAX_EXPERTS};
 ghost use Rattle.explore_command.specs.Starts.{MayOpen, if_agreeing, expert_read, experts_read, explore_read, IsExpertStop, IsExpertsStop};
@@ -64,7 +64,7 @@ pub fn load_explore_start<H: Shelf>(
     ensures refused { IfErr result (λ stop. IsRefusal stop → MayRefuse (explore_read file.now (option_copied known.entry) wants_names files.now (H.tells shelf.old))) }
     ensures cause { IfErr result (IsExploreStop file.now (option_copied known.entry) files.now (H.tells shelf.old)
         (Rises (H.faults shelf.old) (H.faults shelf.new))) }
-    ensures quiet { UnlessFault result (SameCounts (H.faults shelf.old) (H.faults shelf.new)) }
+    ensures quiet { UnlessReadFault result (SameCounts (H.faults shelf.old) (H.faults shelf.new)) }
     ensures few { RoseAtMost (H.fetches shelf.old) (H.fetches shelf.new) (length (file.now ∷ option_to_list (option_copied known.entry) ++ files.now)) }
 {
     let names = names_by_files(alloc, wants_names, files)?;
@@ -107,7 +107,7 @@ fn load_experts<H: Shelf>(
     ensures refused { IfErr result (λ stop. IsRefusal stop → MayRefuse (experts_read table.now files.now (H.tells shelf.old))) }
     ensures cause { IfErr result (IsExpertsStop table.now 0 files.now (H.tells shelf.old)
         (Rises (H.faults shelf.old) (H.faults shelf.new))) }
-    ensures quiet { UnlessFault result (SameCounts (H.faults shelf.old) (H.faults shelf.new)) }
+    ensures quiet { UnlessReadFault result (SameCounts (H.faults shelf.old) (H.faults shelf.new)) }
     ensures few { RoseAtMost (H.fetches shelf.old) (H.fetches shelf.new) (length files.now) }
     ensures only_rise { (other : List ℕ) → H.faults shelf.old other ≤ H.faults shelf.new other }
 {
@@ -132,7 +132,7 @@ fn load_expert<H: Shelf>(
     ensures refused { IfErr result (λ stop. IsRefusal stop → MayRefuse (expert_read table.now file.now (H.tells shelf.old))) }
     ensures cause { IfErr result (IsExpertStop table.now file.now (H.tells shelf.old)
         (Rises (H.faults shelf.old) (H.faults shelf.new)) origin) }
-    ensures quiet { UnlessFault result (SameCounts (H.faults shelf.old) (H.faults shelf.new)) }
+    ensures quiet { UnlessReadFault result (SameCounts (H.faults shelf.old) (H.faults shelf.new)) }
     ensures counted { H.fetches shelf.new ≡ option_map one_more (H.fetches shelf.old) }
     ensures kept { (other : List ℕ) → H.tells shelf.new other ≡ H.tells shelf.old other }
     ensures only_rise { (other : List ℕ) → H.faults shelf.old other ≤ H.faults shelf.new other }

@@ -13,7 +13,7 @@ use Rattle.fca_model.specs.Invariant.{IsValid, rows_respect}
 use Rattle.fca_model.specs.Exploration.{State, Settings, RowName, rules_of, held_by, confirm_reply, row_reply, SetHold, SetEvent, SetEntry}
 use Rattle.fca_model.specs.Exploration.{SetReply}
 use Rattle.fca_model.specs.Exploration.{plain, open_in, given_back, draw_reply, reply_to, after, next, state_after, events_of, expert_of}
-use Rattle.fca_model.specs.Exploration.{has_width}
+use Rattle.fca_model.specs.Exploration.{has_row_of_width}
 use Rattle.fca_model.specs.Exploration.{is_expert, IsLegal}
 use Rattle.fca_model.proofs.ListLemmas.{list_all_from}
 use Rattle.fca_model.proofs.ValidLemmas.{opening_valid}
@@ -156,6 +156,6 @@ module _ (o : Opening) (J : List SetEntry) (K : Context) (acc : List Rule) (hs :
     known = known;
     valid = kept_valid o J K acc hs kept;
     expert = admitted_expert o J K acc hs kept event ok;
-    wide = subst (λ n. has_width n event ≡ true) (sym (kept_width o J K acc hs kept)) ok.wide;
+    wide = subst (λ n. has_row_of_width n event ≡ true) (sym (kept_width o J K acc hs kept)) ok.wide;
     reply = is;
   }

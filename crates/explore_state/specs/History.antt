@@ -4,7 +4,7 @@ use Rattle.fca_model.specs.Tables.{NamedContext}
 use Rattle.fca_model.specs.Implications.{Rule}
 use Rattle.fca_model.specs.Questions.{open_questions}
 use Rattle.fca_model.specs.Exploration.{State, Settings, SetEvent, SetReply, SetEntry, opening, reply_to, next, state_after, events_of}
-use Rattle.fca_model.specs.Exploration.{expert_of, has_width}
+use Rattle.fca_model.specs.Exploration.{expert_of, has_row_of_width}
 
 -- what an exploration is opened with
 pub record Opening : Type 0 where
@@ -34,7 +34,7 @@ open_of h = open_questions h.opening.settings.known (state_of h).context (state_
 pub record Admits (o : Opening) (event : SetEvent) : Type 0 where
   pub first : 1 ≤ expert_of event
   pub last : expert_of event ≤ o.experts
-  pub wide : has_width o.table.context.width event ≡ true
+  pub wide : has_row_of_width o.table.context.width event ≡ true
 
 -- the event was replied to, which put one entry on the journal and moved the state by one step
 pub record IsStep (old new : ExploreModel) (event : SetEvent) (answer : SetReply) : Type 0 where

@@ -5,7 +5,7 @@ use Rattle.fca_model.specs.Implications.{Rule, holds}
 use Rattle.fca_model.specs.Questions.{has_premise}
 use Rattle.fca_model.specs.Invariant.{IsHeld, IsValid, rows_respect}
 use Rattle.fca_model.specs.Exploration.{State, SetHold, SetEvent, SetReply, SetEntry, reply_to, state_after, events_of, expert_of}
-use Rattle.fca_model.specs.Exploration.{has_width, is_expert, IsLegal}
+use Rattle.fca_model.specs.Exploration.{has_row_of_width, is_expert, IsLegal}
 use Rattle.explore_state.specs.History.{Opening, opening_state}
 
 -- the state has these rows, accepted implications and holds
@@ -29,7 +29,7 @@ pub record IsDue (S : List Rule) (K : Context) (acc : List Rule) (hs : List SetH
   pub known : state.settings.known ≡ S
   pub valid : IsValid state
   pub expert : is_expert (expert_of event) ≡ true
-  pub wide : has_width K.width event ≡ true
+  pub wide : has_row_of_width K.width event ≡ true
   pub reply : answer ≡ reply_to state event
 
 -- the accepted implications, with what is held

@@ -16,7 +16,7 @@ use Rattle.attr_bits.proofs.DifferenceLemmas.{get_or-minus}
 use Rattle.lectic_concepts.specs.Branches.{branch}
 use Rattle.lectic_concepts.proofs.FailureLemmas.{at_member, at_none}
 use Rattle.extent_places.specs.Places.{has_at, rows_at}
-use Rattle.extent_places.specs.Tries.{AreTries, LacksBetween}
+use Rattle.extent_places.specs.Tries.{AreAttributesToTry, LacksBetween}
 use Rattle.extent_places.proofs.PlaceLemmas.{rows_at-extent, extent_with}
 
 filter_none : (p : ℕ → Bool) (xs : List ℕ) → All (λ x. p x ≡ false) xs → filter p xs ≡ []
@@ -55,14 +55,14 @@ module _ (K : Context) (A : Set) (wide : length A ≡ K.width) where
       cases true false eu ea h = absurd (false≢true (sym h))
       cases false false eu ea h = otherwise eu ea
 
-  pub all_tries : (T : Set) → T ≡ minus (full K.width) A → AreTries K A T
+  pub all_tries : (T : Set) → T ≡ minus (full K.width) A → AreAttributesToTry K A T
   all_tries T is i inside gone = taken (full K.width) i (ap (λ X. get_or X i false) (sym is) ∙ gone)
       (λ u a. absurd (false≢true (sym u ∙ get_or-full K.width i inside)))
 
   -- J has all attributes of objects of A, and U those of J and the first that A lacks
   pub few_tries : (J U T : Set) → ((i : ℕ) → i < K.width → get_or J i false ≡ false → All (λ p. has_at K.rows i p ≡ false) (extent K A))
       → ((i : ℕ) → i < K.width → get_or U i false ≡ false → (get_or J i false ≡ false) × (first_missing 0 (full K.width) A ≢ Some i))
-      → T ≡ minus U A → AreTries K A T
+      → T ≡ minus U A → AreAttributesToTry K A T
   few_tries J U T rest parts is i inside gone = taken U i (ap (λ X. get_or X i false) (sym is) ∙ gone) (λ u a.
       let p = parts i inside u in
       at_none K A i a wide inside (full K.width) (sym (closure-without_object K A i (omega (arith, wide, inside)) (rest i inside p.0))) p.1)
@@ -82,7 +82,7 @@ with_first K A J U k first inside is i lacks = elim (cases_eq i k) [
 -- ---- gaps
 
 -- the branches of two attributes are the same if T lacks the attributes between
-pub branch-between : (K : Context) (A T : Set) (from end : ℕ) → AreTries K A T → from ≤ end → end ≤ K.width → LacksBetween T from end
+pub branch-between : (K : Context) (A T : Set) (from end : ℕ) → AreAttributesToTry K A T → from ≤ end → end ≤ K.width → LacksBetween T from end
     → branch K A from ≡ branch K A end
 branch-between K A T from end tries le inside lacks = go (end - from) from refl le lacks
   where
@@ -93,7 +93,7 @@ branch-between K A T from end tries le inside lacks = go (end - from) from refl 
         ∙ go n (k + 1) (omega (arith, e)) (omega (arith, e)) (λ i at before. h i (omega (arith, at)) before)
 
 -- the branch behind a member is that behind the members that come next
-pub branch-behind : (K J : Context) (A T : Set) (i end : ℕ) → J ≡ K → AreTries J A T → i < end → end ≤ K.width → LacksBetween T (i + 1) end
+pub branch-behind : (K J : Context) (A T : Set) (i end : ℕ) → J ≡ K → AreAttributesToTry J A T → i < end → end ≤ K.width → LacksBetween T (i + 1) end
     → branch K A (i + 1) ≡ branch K A end
 branch-behind K J A T i end same tries before inside lacks =
-    branch-between K A T (i + 1) end (subst (λ (X : Context). AreTries X A T) same tries) (omega (arith, before)) inside lacks
+    branch-between K A T (i + 1) end (subst (λ (X : Context). AreAttributesToTry X A T) same tries) (omega (arith, before)) inside lacks

@@ -16,4 +16,4 @@ pub use objects::{
     FEW_OBJECTS, ObjectSet, closure_of, columns_of, have_all, objects_above, objects_with,
 };
 pub use places::{closure_at, places_having};
-pub use tries::{last_member, tries_of};
+pub use tries::{attributes_to_try, last_member};

@@ -3,7 +3,7 @@
 ghost use Rattle.std.specs.Prelude.{◌≡◌, ◌≤◌, ◌<◌, ◌+◌, ℕ, false, All, MatchOption, length, slice_index_or};
 ghost use Rattle.fca_model.specs.Context.{extent};
 ghost use Rattle.extent_places.specs.Places.{has_at};
-ghost use Rattle.extent_places.specs.Tries.{AreTries, LacksBetween};
+ghost use Rattle.extent_places.specs.Tries.{AreAttributesToTry, LacksBetween};
 
 use attr_bits::Bits;
 use derivation::RowsOf;
@@ -13,11 +13,11 @@ const FEW: usize = 4;
 
 /// The attributes from which a child of a may come. If a has few objects, these are the attributes that one of the objects has, and the first that a lacks. With
 /// any other attribute no object is left, so the closure is the full set, and that has an earlier attribute that a lacks.
-pub fn tries_of<const W: usize>(rows: &RowsOf<W>, a: &Bits<W>, places: &[u16]) -> Bits<W>
+pub fn attributes_to_try<const W: usize>(rows: &RowsOf<W>, a: &Bits<W>, places: &[u16]) -> Bits<W>
     requires wide { length a.now ≡ rows.now.width }
     requires places { places.now ≡ extent rows.now a.now }
     ensures wide { length result ≡ rows.now.width }
-    ensures tries { AreTries rows.now a.now result }
+    ensures tries { AreAttributesToTry rows.now a.now result }
 {
     let full = Bits::full(rows.width());
     if places.len() > FEW {

@@ -43,12 +43,12 @@ pub(crate) fn split_names(words: &[Word]) -> (bool, &[Word])
     ensures behind { result.1.now ≡ behind_names words.now }
 {
     match words {
-        [flag, later @ ..] if is_names(flag) => (true, later),
+        [flag, later @ ..] if is_names_flag(flag) => (true, later),
         _ => (false, words),
     }
 }
 
-fn is_names(flag: &Word) -> bool
+fn is_names_flag(flag: &Word) -> bool
     ensures { result ≡ bytes_eq flag.now (codes "--names") }
 {
     flag.bytes() == b"--names".as_slice()
@@ -61,12 +61,12 @@ fn split_holders(words: &[Word]) -> (Option<u8>, &[Word])
     ensures behind { result.1.now ≡ behind_holders words.now }
 {
     match words {
-        [flag, count, later @ ..] if is_holders(flag) => (expert_count(count.bytes()), later),
+        [flag, count, later @ ..] if is_holders_flag(flag) => (expert_count(count.bytes()), later),
         _ => (Some(MAX_EXPERTS), words),
     }
 }
 
-fn is_holders(flag: &Word) -> bool
+fn is_holders_flag(flag: &Word) -> bool
     ensures { result ≡ bytes_eq flag.now (codes "--holders") }
 {
     flag.bytes() == b"--holders".as_slice()
@@ -90,14 +90,14 @@ pub(crate) fn serving_of(words: &[Word]) -> Option<(u8, u8, &Word)>
     ensures holders { IfSome result (λ s. is_expert s.1 ≡ true) }
 {
     match words {
-        [flag, experts, later @ ..] if is_experts(flag) => {
+        [flag, experts, later @ ..] if is_experts_flag(flag) => {
             serving_for(later, expert_count(experts.bytes()))
         }
         _ => None,
     }
 }
 
-fn is_experts(flag: &Word) -> bool
+fn is_experts_flag(flag: &Word) -> bool
     ensures { result ≡ bytes_eq flag.now (codes "--experts") }
 {
     flag.bytes() == b"--experts".as_slice()

@@ -22,6 +22,6 @@ counts_whole size (Ok taken) count = cond (taken == size) (option_map one_more c
 counts_whole size (Err e) count = count
 
 -- how many reads of a source were made, if they are counted, and its count of faults
-pub record Asked : Type 0 where
+pub record ReadCounts : Type 0 where
   pub reads : Option ℕ
   pub faults : ℕ

@@ -33,7 +33,7 @@ pub record Stream : Type 0 where
   pub plan : Plan
 
 -- a sink that holds no more than its room, and counts the writes that it took whole
-pub record Roomy : Type 0 where
+pub record BoundedSink : Type 0 where
   pub bytes : List ℕ
   pub most : ℕ
   pub room : ℕ

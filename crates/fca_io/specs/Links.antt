@@ -1,6 +1,6 @@
 -- Listeners: the ends that are to come and those that were given back, if a listener tells them, and the forms in memory.
 use Rattle.std.specs.Prelude.{◌≡◌, ⊤, ℕ, ◌+◌, ◌≤◌, nat_lt, Bool, cond, Option, None, Some, List, [], ◌∷◌, ◌++◌, length}
-use Rattle.fca_io.specs.Forms.{Plan, Stream, Roomy}
+use Rattle.fca_io.specs.Forms.{Plan, Stream, BoundedSink}
 
 -- the ends that are still to come, those that were given back, and how many both together may be
 pub record Ends (E : Type 0) : Type 0 where
@@ -34,7 +34,7 @@ MayListenAt (Some told) address = told ≡ address
 -- an end: what is still to be read there, and what was written
 pub record Wire : Type 0 where
   pub incoming : Stream
-  pub outgoing : Roomy
+  pub outgoing : BoundedSink
 
 -- a listener for one address
 pub record Link : Type 0 where

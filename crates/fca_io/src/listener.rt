@@ -15,7 +15,7 @@ pub trait Duplex: Source + Sink {
 
     ghost left_beside: { (end : Self) → Self.Sink.beside end ≡ Self.Source.left end };
 
-    ghost reads_beside: { (end : Self) → Self.Sink.asked_beside end ≡ record { reads = Self.Source.reads end; faults = Self.Source.faults end } };
+    ghost reads_beside: { (end : Self) → Self.Sink.read_counts_beside end ≡ record { reads = Self.Source.reads end; faults = Self.Source.faults end } };
 }
 
 /// A listener accepts ends, and takes them back.

@@ -4,7 +4,7 @@ ghost use Rattle.std.specs.Prelude.{◌≡◌, ◌<◌, ◌≤◌, ℕ, List, le
 ghost use Rattle.std.specs.Option.{option_map};
 ghost use Rattle.std.specs.Io.{ReadsAtMost};
 ghost use Rattle.std.specs.Io.KnownBytes.{Keeps, ReadConsumes, WriteAppends};
-ghost use Rattle.fca_io.specs.Faults.{Rose, Asked, one_more, counts_whole};
+ghost use Rattle.fca_io.specs.Faults.{Rose, ReadCounts, one_more, counts_whole};
 ghost use Rattle.fca_io.specs.Shelves.{Told, MayHold, MayExceed};
 
 use fca_model::NO_MEMORY;
@@ -116,7 +116,7 @@ pub trait Sink {
     ghost whole_writes: { Self → Option ℕ };
 
     // the counts beside the sink, such as those of reads
-    ghost asked_beside: { Self → Asked };
+    ghost read_counts_beside: { Self → ReadCounts };
 
     /// Appends the first bytes of `from`, at least one. The result is their number.
     fn write(&mut self, from: &[u8]) -> Result<usize, Failed>
@@ -133,7 +133,7 @@ pub trait Sink {
         ensures only_rise { faults self.old ≤ faults self.new }
 
         ensures beside { Keeps (beside self.old) (beside self.new) }
-        ensures same_beside { asked_beside self.new ≡ asked_beside self.old };
+        ensures same_beside { read_counts_beside self.new ≡ read_counts_beside self.old };
 }
 
 /// Files by their names.

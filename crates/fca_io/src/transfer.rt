@@ -59,7 +59,7 @@ pub fn write_text<K: Sink>(sink: &mut K, text: &[u8]) -> Result<(), Put>
     ensures only_rise { K.faults sink.old ≤ K.faults sink.new }
 
     ensures beside { Keeps (K.beside sink.old) (K.beside sink.new) }
-    ensures same_beside { K.asked_beside sink.new ≡ K.asked_beside sink.old }
+    ensures same_beside { K.read_counts_beside sink.new ≡ K.read_counts_beside sink.old }
 {
     let mut rest = text;
     while !rest.is_empty() {

@@ -14,7 +14,7 @@ use Rattle.fca_model.specs.Implications.{Rule, respects, respects_all, refutes, 
 use Rattle.fca_model.specs.Pseudo.{intents}
 use Rattle.fca_model.specs.Questions.{has_premise, open_questions}
 use Rattle.fca_model.specs.Exploration.{State, SetEvent, SetHold, Settings, rules_of, open_in, held_by, given_back, holders_of, all_held}
-use Rattle.fca_model.specs.Exploration.{least_held, asked, draw_reply, reply_to, next, state_after, expert_of, is_expert, has_width}
+use Rattle.fca_model.specs.Exploration.{least_held, asked, draw_reply, reply_to, next, state_after, expert_of, is_expert, has_row_of_width}
 use Rattle.fca_model.specs.declared.Event.TheVariants.{Draw}
 use Rattle.fca_model.specs.declared.Reply.TheVariants.{AllHeld, Done}
 use Rattle.fca_model.specs.Invariant.{IsValid}
@@ -158,7 +158,7 @@ module _ (s : State) (v : IsValid s) (done : open_in s ≡ []) where
       false≢true (sym (not-true (within q.conclusion r) parts.1) ∙ within_trans q.conclusion (closure K q.premise) r true_here up)
 
   -- no event changes the rows or the accepted implications
-  pub done_stays : (event : SetEvent) → has_width s.context.width event ≡ true
+  pub done_stays : (event : SetEvent) → has_row_of_width s.context.width event ≡ true
       → ((next s event).context ≡ s.context) × ((next s event).accepted ≡ s.accepted)
   done_stays event w =
       let e = expert_of event in
@@ -166,10 +166,10 @@ module _ (s : State) (v : IsValid s) (done : open_in s ≡ []) where
       (λ q held unrefuted new. absurd (false≢true (sym new ∙ held_heard e q held unrefuted)))
       (λ name r q is held refuted kept unrefuted.
       let h = held_valid s v e q held in
-      absurd (row_respects r q (eqb-true (length r) s.context.width (subst (λ x. has_width s.context.width x ≡ true) is w)) kept
+      absurd (row_respects r q (eqb-true (length r) s.context.width (subst (λ x. has_row_of_width s.context.width x ≡ true) is w)) kept
       (unrefuted_holds s.context q h.conclusion_wide unrefuted) refuted))
 
-  pub next_done : (event : SetEvent) → has_width s.context.width event ≡ true → open_in (next s event) ≡ []
+  pub next_done : (event : SetEvent) → has_row_of_width s.context.width event ≡ true → open_in (next s event) ≡ []
   next_done event w =
       let same = done_stays event w in
       ap (λ (x : Settings). open_questions x.known (next s event).context (next s event).accepted) (next_settings s event)
@@ -178,14 +178,14 @@ module _ (s : State) (v : IsValid s) (done : open_in s ≡ []) where
 
 -- and so from then on
 pub run_done : (s : State) → IsValid s → open_in s ≡ [] → (es : List SetEvent) → list_all (λ event. is_expert (expert_of event)) es ≡ true
-    → list_all (has_width s.context.width) es ≡ true
+    → list_all (has_row_of_width s.context.width) es ≡ true
     → ((state_after s es).context ≡ s.context) × ((state_after s es).accepted ≡ s.accepted) × (open_in (state_after s es) ≡ [])
 unfolding state_after
 run_done s v done [] i w = (refl, refl, done)
 run_done s v done (x ∷ es) i w =
     let is = and_parts (is_expert (expert_of x)) (list_all (λ event. is_expert (expert_of event)) es) i in
-    let ws = and_parts (has_width s.context.width x) (list_all (has_width s.context.width) es) w in
+    let ws = and_parts (has_row_of_width s.context.width x) (list_all (has_row_of_width s.context.width) es) w in
     let first = done_stays s v done x ws.0 in
     let rest = run_done (next s x) (next_valid s v x is.0) (next_done s v done x ws.0) es is.1
-    (subst (λ n. list_all (has_width n) es ≡ true) (sym (next_width s x)) ws.1) in
+    (subst (λ n. list_all (has_row_of_width n) es ≡ true) (sym (next_width s x)) ws.1) in
     (rest.0 ∙ first.0, rest.1 ∙ first.1, rest.2)

@@ -17,7 +17,7 @@ use Rattle.fca_model.specs.Invariant.{is_member, IsValid}
 use Rattle.fca_model.specs.Exploration.{State, SetEvent, SetEntry, SetHold, rules_of, open_in, held_by, given_back, holders_of, all_held}
 use Rattle.fca_model.specs.Exploration.{least_held, first_with, first_missing, asked, draw_reply, confirm_unheard, confirm_unrefuted}
 use Rattle.fca_model.specs.Exploration.{confirm_reply, row_new, row_unbroken, row_refuting, row_fitting, row_reply, reply_to, next}
-use Rattle.fca_model.specs.Exploration.{journal_of, events_of, expert_of, is_expert, has_width, IsLegal}
+use Rattle.fca_model.specs.Exploration.{journal_of, events_of, expert_of, is_expert, has_row_of_width, IsLegal}
 use Rattle.fca_model.specs.Widths.{IsWide, HasWideReply}
 use Rattle.fca_model.proofs.ListLemmas.{list_all-mono, list_all-filter_kept, find_all}
 use Rattle.fca_model.proofs.ClosureLemmas.{length-closure}
@@ -162,27 +162,27 @@ module _ (s : State) (v : IsValid s) (rows : list_all (row_wide s.context.width)
 
 -- the rows have the width after each event
 next_rows : (s : State) (event : SetEvent) → list_all (row_wide s.context.width) s.context.rows ≡ true
-    → has_width s.context.width event ≡ true
+    → has_row_of_width s.context.width event ≡ true
     → list_all (row_wide (next s event).context.width) (next s event).context.rows ≡ true
 next_rows s event rows w =
     by_change s event (λ (t : State). list_all (row_wide t.context.width) t.context.rows ≡ true) rows rows (λ _ _. rows) (λ _ _ _ _. rows)
     (λ name r q is _ _ _ _. list_all-append (row_wide s.context.width) s.context.rows (r ∷ [])
     ∙ and_from (list_all (row_wide s.context.width) s.context.rows) (row_wide s.context.width r && true) rows
-    (and_from (row_wide s.context.width r) true (subst (λ event. has_width s.context.width event ≡ true) is w) refl))
+    (and_from (row_wide s.context.width r) true (subst (λ event. has_row_of_width s.context.width event ≡ true) is w) refl))
 
 run_wide : (s : State) → IsValid s → list_all (row_wide s.context.width) s.context.rows ≡ true
     → list_all (wide s.context.width) s.settings.known ≡ true
-    → (es : List SetEvent) → list_all (λ event. is_expert (expert_of event)) es ≡ true → list_all (has_width s.context.width) es ≡ true
+    → (es : List SetEvent) → list_all (λ event. is_expert (expert_of event)) es ≡ true → list_all (has_row_of_width s.context.width) es ≡ true
     → All (λ (entry : SetEntry). HasWideReply s.context.width entry.reply) (journal_of s es)
 unfolding journal_of
 run_wide s v rows known [] i w = All-nil (λ (entry : SetEntry). HasWideReply s.context.width entry.reply)
 run_wide s v rows known (event ∷ es) i w =
     let experts = and_parts (is_expert (expert_of event)) (list_all (λ event. is_expert (expert_of event)) es) i in
-    let widths = and_parts (has_width s.context.width event) (list_all (has_width s.context.width) es) w in
+    let widths = and_parts (has_row_of_width s.context.width event) (list_all (has_row_of_width s.context.width) es) w in
     let same_width = next_width s event in
     let rest = run_wide (next s event) (next_valid s v event experts.0) (next_rows s event rows widths.0)
     (subst (λ (z : ℕ × List Rule). list_all (wide z.0) z.1 ≡ true) (λ j. (sym same_width j, (sym (next_settings s event) j).known)) known)
-    es experts.1 (subst (λ n. list_all (has_width n) es ≡ true) (sym same_width) widths.1) in
+    es experts.1 (subst (λ n. list_all (has_row_of_width n) es ≡ true) (sym same_width) widths.1) in
     All-cons (λ (entry : SetEntry). HasWideReply s.context.width entry.reply) (record { event = event; reply = reply_to s event })
     (journal_of (next s event) es)
     (reply_wide s v rows known event)

@@ -6,5 +6,5 @@ use Rattle.std.specs.Prelude.{ℕ, ◌+◌, ◌*◌, ◌-◌, ◌^◌}
 -- a bound for a step whose attributes from `from` on and before `end` are still to be tried, of n attributes in all: one for its end, and
 -- two for each set of
 -- attributes whose first one is among these
-abbrev pub room : ℕ → ℕ → ℕ → ℕ
-room n from end = 2 * (2 ^ (n - from) - 2 ^ (n - end)) + 1
+abbrev pub steps_bound : ℕ → ℕ → ℕ → ℕ
+steps_bound n from end = 2 * (2 ^ (n - from) - 2 ^ (n - end)) + 1

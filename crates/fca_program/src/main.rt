@@ -20,7 +20,7 @@ fn main(rt: HostRuntime) -> ExitCode {
     let mut link = TcpLink::new(&rt);
     let words = match env::args(&rt) {
         Ok(arguments) => words_of(rt.alloc(), arguments).map_err(Stop::from),
-        Err(error) => Err(wordless(&error)),
+        Err(error) => Err(argument_stop(&error)),
     };
     let status = match words {
         Ok(words) => run(
@@ -39,7 +39,7 @@ fn main(rt: HostRuntime) -> ExitCode {
 }
 
 /// Why there are no words: one of them is no text, or memory ran out.
-fn wordless(error: &Error) -> Stop
+fn argument_stop(error: &Error) -> Stop
     ensures text { (result ≡ Stop.NoCommand) ↔ (error_kind error.now ≡ InvalidData) }
     ensures memory { (result ≡ Stop.NoCommand) ⊎ (result ≡ Stop.Memory) }
 {

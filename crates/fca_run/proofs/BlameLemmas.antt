@@ -17,7 +17,7 @@ use Rattle.command_io.specs.Endings.{Output, IsRefusal}
 use Rattle.command_io.specs.declared.stop.Origin.{Origin}
 use Rattle.command_io.specs.declared.stop.Origin.TheVariants.{File, Later, Input}
 use Rattle.command_io.specs.declared.stop.Stop.{Stop}
-use Rattle.command_io.specs.declared.stop.Stop.TheVariants.{NoCommand, NoScript, RowBreaks, UnknownAttribute, OtherAttributes, Fault}
+use Rattle.command_io.specs.declared.stop.Stop.TheVariants.{NoCommand, NoScript, RowBreaks, UnknownAttribute, OtherAttributes, ReadFault}
 use Rattle.command_io.specs.declared.stop.Stop.TheVariants.{Listener, Memory}
 use Rattle.expert_scripts.specs.Scripts.{ScriptContent}
 use Rattle.expert_scripts.specs.declared.fault.ScriptFault.TheVariants.{BadLine}
@@ -37,31 +37,31 @@ module _ (rose R L : Type 0) (more : rose → R) where
   file-blamed : (name : Text) (told : Told) (origin : Origin) (s : Stop) → IsFileStop name told rose origin s → IsBlamed R L s
   file-blamed name told origin NoCommand is = absurd is
   file-blamed name told origin Listener is = absurd is
-  file-blamed name told origin (Fault at) is = more is.1
+  file-blamed name told origin (ReadFault at) is = more is.1
   file-blamed name told origin _ is = tt
 
   values-blamed : (told : Told) (origin : Origin) (s : Stop) → IsValuesStop told rose origin s → IsBlamed R L s
   values-blamed told origin NoCommand is = absurd is
   values-blamed told origin Listener is = absurd is
-  values-blamed told origin (Fault at) is = more is.1
+  values-blamed told origin (ReadFault at) is = more is.1
   values-blamed told origin _ is = tt
 
   plan-blamed : (t : ValueTable) (told : Told) (origin : Origin) (s : Stop) → IsPlanStop t told rose origin s → IsBlamed R L s
   plan-blamed t told origin NoCommand is = absurd is
   plan-blamed t told origin Listener is = absurd is
-  plan-blamed t told origin (Fault at) is = more is.1
+  plan-blamed t told origin (ReadFault at) is = more is.1
   plan-blamed t told origin _ is = tt
 
   implications-blamed : (n : ℕ) (told : Told) (s : Stop) → IsImplicationsStop n told rose s → IsBlamed R L s
   implications-blamed n told NoCommand is = absurd is
   implications-blamed n told Listener is = absurd is
-  implications-blamed n told (Fault at) is = more is.1
+  implications-blamed n told (ReadFault at) is = more is.1
   implications-blamed n told _ is = tt
 
   script-blamed : (n : ℕ) (input : Option Text) (s : Stop) → IsScriptStop n input rose s → IsBlamed R L s
   script-blamed n input NoCommand is = absurd is
   script-blamed n input Listener is = absurd is
-  script-blamed n input (Fault at) is = more is.1
+  script-blamed n input (ReadFault at) is = more is.1
   script-blamed n input _ is = tt
 
   report-blamed : (command : Command) (file : Text) (told : Told) (s : Stop) → IsReportStop command file told rose s → IsBlamed R L s
@@ -192,7 +192,7 @@ given-refused (Read x) may given = may
 given-stops : {X : Type 0} (reading : Reading X) (R L : Type 0) (s : Stop) → IsBlamed R L s → (IsRefusal s → MayRefuse reading)
     → IsGiven reading → (s ≡ Memory) ⊎ (R ⊎ L)
 given-stops reading R L NoCommand blamed refused given = absurd blamed
-given-stops reading R L (Fault origin) blamed refused given = inr (inl blamed)
+given-stops reading R L (ReadFault origin) blamed refused given = inr (inl blamed)
 given-stops reading R L Listener blamed refused given = inr (inr blamed)
 given-stops reading R L Memory blamed refused given = inl refl
 given-stops reading R L _ blamed refused given = absurd (given-refused reading (refused tt) given)

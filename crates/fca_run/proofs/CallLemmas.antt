@@ -18,7 +18,7 @@ use Rattle.fca_command.specs.declared.command.Command.TheVariants.{Scale, Replay
 use Rattle.context_table.specs.declared.recipe.Recipe.{Recipe}
 use Rattle.command_io.specs.Readings.{Reading, then, MayRead, MayRefuse, Rises, SameCounts}
 use Rattle.command_io.specs.Readings.Reading.{Read}
-use Rattle.command_io.specs.Causes.{UnlessFault, UnlessListener}
+use Rattle.command_io.specs.Causes.{UnlessReadFault, UnlessListener}
 use Rattle.command_io.specs.Known.{Start, start_read}
 use Rattle.command_io.specs.Endings.{Output, Outcome, finished, ending_of, IsRefusal, IsUnread, IsOfFile, MayBecome}
 use Rattle.command_io.specs.Endings.Outcome.{Written, CutOff, Stopped}
@@ -58,8 +58,8 @@ any-ok (Err e) P p = tt
 -- ---- counts of faults
 
 module _ {H S L E : Type 0} (output : Result Output Stop) where
-  quiet_with : (old new : Outside H S L E) → UnlessFault output (SameCounts old.shelf.faults new.shelf.faults)
-      → UnlessFault output (new.input.faults ≡ old.input.faults)
+  quiet_with : (old new : Outside H S L E) → UnlessReadFault output (SameCounts old.shelf.faults new.shelf.faults)
+      → UnlessReadFault output (new.input.faults ≡ old.input.faults)
       → UnlessListener output (SameCounts old.link.open_faults new.link.open_faults)
       → UnlessListener output (new.link.accept_faults ≡ old.link.accept_faults)
       → IsQuiet output old new
@@ -99,7 +99,7 @@ module _ {H S D E : Type 0} (end_sides : Sides E) (s s' : ShelfMoment H) (input 
       → IfOk output (MayExplore (explore_read file known names experts s.tells))
       → IfErr output (λ stop. (IsRefusal stop → MayRefuse (explore_read file known names experts s.tells)))
       → IfErr output (IsExploreStop file known experts s.tells (Rises s.faults s'.faults))
-      → UnlessFault output (SameCounts s.faults s'.faults)
+      → UnlessReadFault output (SameCounts s.faults s'.faults)
       → RoseAtMost s.fetches s'.fetches (length (file ∷ option_to_list known ++ experts))
       → ComesTo end_sides (Explore file known names experts) (outside s input link) (outside s' input link) output
   explore-comes file known names experts output answers refuses causes quiet few =
@@ -190,7 +190,7 @@ module _ {H S D E : Type 0} (end_sides : Sides E) (s s' : ShelfMoment H) (input 
       → IfErr output (λ stop. (IsUnread stop → link' ≡ link))
       → IfErr output (λ stop. GaveAllBack end_sides.left end_sides.held end_sides.reads end_sides.read_faults end_sides.write_faults experts link.ends link'.ends
       (stop ≡ Listener))
-      → UnlessFault output (SameCounts s.faults s'.faults)
+      → UnlessReadFault output (SameCounts s.faults s'.faults)
       → RoseAtMost s.fetches s'.fetches (length (file ∷ option_to_list known))
       → UnlessListener output (SameCounts link.open_faults link'.open_faults)
       → UnlessListener output (link'.accept_faults ≡ link.accept_faults)
@@ -375,8 +375,8 @@ module _ {H S : Type 0} (s s' : ShelfMoment H) (input input' : Moment S) (output
       → (reads_input command ≡ true → OnOk output (IsAtEnd input'.bytes))
       → (reads_input command ≡ false → input' ≡ input)
       → IfErr output (λ stop. (IsOfFile stop → input' ≡ input))
-      → UnlessFault output (SameCounts s.faults s'.faults)
-      → UnlessFault output (input'.faults ≡ input.faults)
+      → UnlessReadFault output (SameCounts s.faults s'.faults)
+      → UnlessReadFault output (input'.faults ≡ input.faults)
       → RoseAtMost s.fetches s'.fetches (length (files_of command))
       → ComesTo no_sides command before behind output
   plain-comes command plain answers ends courses causes refuses at_end kept unread quiet quiet_input few =

@@ -8,7 +8,7 @@ use Rattle.fca_model.specs.Exploration.{State, Settings, SetEntry, opening, open
 use Rattle.fca_model.proofs.CourseLemmas.{run_settings}
 use Rattle.fca_io.specs.Links.{Ends}
 use Rattle.explore_state.specs.History.{Opening}
-use Rattle.basis_report.specs.Explorations.{explore_text, state_of_text, text_before_basis, Spells}
+use Rattle.basis_report.specs.Explorations.{explore_text, state_of_history, text_before_basis, Spells}
 use Rattle.basis_report.specs.Conflicts.{conflicts_text}
 use Rattle.basis_report.specs.Sessions.{sessions_text}
 use Rattle.basis_report.proofs.OrderLemmas.{finished_text}
@@ -34,7 +34,7 @@ ends-with-basis : (r : Exploration) (later text : Text) → IsExplored r
 ends-with-basis r later text explored printed none =
     let t : NamedContext = r.opening.table in
     let s : Settings = r.opening.settings in
-    let now : State = state_of_text t s r.journal in
+    let now : State = state_of_history t s r.journal in
     let settled : now.settings.known ≡ s.known = ap (λ (x : Settings). x.known)
     (run_settings (opening t.context t.objects s) (events_of r.journal)) in
     let done : open_in now ≡ [] = ap (λ S. open_questions S now.context now.accepted) settled ∙ none in

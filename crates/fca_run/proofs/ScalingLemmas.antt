@@ -3,7 +3,7 @@ use Rattle.std.proofs.Common.{◌≡◌, ◌≤◌, ℕ, List, inr, refl, subst}
 use Rattle.fca_model.specs.Tables.{Text}
 use Rattle.fca_io.specs.Shelves.{Told}
 use Rattle.value_tables.specs.Values.{ValueTable}
-use Rattle.context_scaling.specs.Scaling.{Scaling, scaled}
+use Rattle.context_scaling.specs.Scaling.{PlanRecord, scaled}
 use Rattle.cxt_format.specs.Written.{cxt_text}
 use Rattle.command_io.specs.Readings.{then, MayRead, MayRefuse, Rises}
 use Rattle.command_io.specs.Readings.Reading.{Read}
@@ -13,17 +13,17 @@ use Rattle.command_io.specs.Causes.{IsPlanStop}
 use Rattle.command_io.specs.declared.stop.Origin.{Origin}
 use Rattle.command_io.specs.declared.stop.Origin.TheVariants.{Later}
 use Rattle.command_io.specs.declared.stop.Stop.{Stop}
-use Rattle.command_io.specs.declared.stop.Stop.TheVariants.{Fault}
+use Rattle.command_io.specs.declared.stop.Stop.TheVariants.{ReadFault}
 use Rattle.command_io.proofs.ReadingLemmas.{refused_then, refused_after, read_after}
 use Rattle.command_io.proofs.KnownLemmas.{Rises-before}
 use Rattle.fca_run.specs.Causes.{IsScaleStop}
 use Rattle.fca_run.specs.Outputs.{scale_output}
 
 -- the table that the plan makes of the values, as what is written
-abbrev scaled_output : ValueTable → List Scaling → Output
+abbrev scaled_output : ValueTable → List PlanRecord → Output
 scaled_output t p = finished (cxt_text (scaled t p))
 
-pub scale-read : (values plan : Text) (tells now : Text → Told) (t : ValueTable) (p : List Scaling) → MayRead (values_read (tells values)) t
+pub scale-read : (values plan : Text) (tells now : Text → Told) (t : ValueTable) (p : List PlanRecord) → MayRead (values_read (tells values)) t
     → ((other : Text) → now other ≡ tells other)
     → MayRead (plan_read t (now plan)) p → MayRead (scale_output values plan tells) (scaled_output t p)
 scale-read values plan tells now t p here same may =
@@ -43,7 +43,7 @@ scale-refused values plan tells now t here same may =
 -- a file is at fault where a count rose for it
 IsPlanStop-more : (t : ValueTable) (told : Told) (rose rose' : Type 0) (origin : Origin) (s : Stop) → (rose → rose')
     → IsPlanStop t told rose origin s → IsPlanStop t told rose' origin s
-IsPlanStop-more t told rose rose' origin (Fault at) more is = (is.0, more is.1)
+IsPlanStop-more t told rose rose' origin (ReadFault at) more is = (is.0, more is.1)
 IsPlanStop-more t told rose rose' origin _ more is = is
 
 pub scale-stop : (values plan : Text) (tells now : Text → Told) (counts between after : Text → ℕ) (t : ValueTable) (s : Stop)

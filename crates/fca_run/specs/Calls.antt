@@ -11,14 +11,14 @@ use Rattle.fca_command.specs.declared.command.Command.{Command}
 use Rattle.fca_command.specs.declared.command.Command.TheVariants.{Scale, Replay, Explore, Serve}
 use Rattle.command_io.specs.Readings.{Reading, then, MayRead, MayRefuse, Rises, SomeRose, SameCounts}
 use Rattle.command_io.specs.Readings.Reading.{Untold, Missing, Refused, Read}
-use Rattle.command_io.specs.Causes.{UnlessFault, UnlessListener}
+use Rattle.command_io.specs.Causes.{UnlessReadFault, UnlessListener}
 use Rattle.command_io.specs.Known.{start_read}
 use Rattle.command_io.specs.Endings.{Output, IsRefusal, IsUnread, IsOfFile}
 use Rattle.command_io.specs.Streams.{Moment, HasConcluded}
 use Rattle.command_io.specs.declared.output.Ending.{Ending}
 use Rattle.command_io.specs.declared.output.Ending.TheVariants.{Finished, Open, Spent}
 use Rattle.command_io.specs.declared.stop.Stop.{Stop}
-use Rattle.command_io.specs.declared.stop.Stop.TheVariants.{NoCommand, Fault, Listener, Memory}
+use Rattle.command_io.specs.declared.stop.Stop.TheVariants.{NoCommand, ReadFault, Listener, Memory}
 use Rattle.replay_command.specs.Replayed.{IsReplayStop}
 use Rattle.explore_command.specs.Starts.{explore_read, IsExploreStop}
 use Rattle.explore_command.specs.Explored.{MayExplore}
@@ -115,7 +115,7 @@ IsGiven (Read x) = ⊤
 -- a fault of the shelf or the input comes only if the first count rose, and one of the link only if the second did
 abbrev pub IsBlamed : Type 0 → Type 0 → Stop → Type 0
 IsBlamed rose link_rose NoCommand = ⊥
-IsBlamed rose link_rose (Fault origin) = rose
+IsBlamed rose link_rose (ReadFault origin) = rose
 IsBlamed rose link_rose Listener = link_rose
 IsBlamed rose link_rose _ = ⊤
 
@@ -158,8 +158,8 @@ module _ {H S L E : Type 0} where
   -- No count of faults changes: not those of the files and of the input, unless one of these could not be read, and not those of the link,
   -- unless the listener failed
   pub record IsQuiet (output : Result Output Stop) (old new : Outside H S L E) : Type 0 where
-    pub files : UnlessFault output (SameCounts old.shelf.faults new.shelf.faults)
-    pub input : UnlessFault output (new.input.faults ≡ old.input.faults)
+    pub files : UnlessReadFault output (SameCounts old.shelf.faults new.shelf.faults)
+    pub input : UnlessReadFault output (new.input.faults ≡ old.input.faults)
     pub addresses : UnlessListener output (SameCounts old.link.open_faults new.link.open_faults)
     pub accepting : UnlessListener output (new.link.accept_faults ≡ old.link.accept_faults)
 

@@ -17,8 +17,8 @@ use Rattle.fca_run.specs.Reports.{table_report}
 
 -- the stop for the file of values, or, if that was read, for the plan
 abbrev pub IsScaleStop : Text → Text → (Text → Told) → (Text → Type 0) → Stop → Type 0
-IsScaleStop values plan files rises stop = IsValuesStop (files values) (rises values) File stop
-    ⊎ ((t : ValueTable) × MayRead (values_read (files values)) t × IsPlanStop t (files plan) (rises plan) (Later 0) stop)
+IsScaleStop values plan tells rises stop = IsValuesStop (tells values) (rises values) File stop
+    ⊎ ((t : ValueTable) × MayRead (values_read (tells values)) t × IsPlanStop t (tells plan) (rises plan) (Later 0) stop)
 
 -- The stop for a report on the table in the file: that of the file, or, if it was read, that a word names what is no attribute of the
 -- table, so that the command has nothing to report

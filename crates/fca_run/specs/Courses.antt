@@ -24,12 +24,12 @@ use Rattle.serve_command.specs.Openings.{opening_by}
 -- the script says, or just what the known file says; those of `explore`, what is known and the names of the experts; those of `serve`, what
 -- is known and how many may hold one question
 abbrev pub opening_read : Command → (Text → Told) → Option Text → Reading Opening
-opening_read (Replay file known) files input = then (replay_read file known files input) (λ r. Read r.opening)
-opening_read (Explore file known names experts) files input =
-    then (explore_read file known names experts files) (λ start. Read (opening_of start.table (length start.tables) start.settings))
-opening_read (Serve file known experts holders listen) files input =
-    then (start_read file known files) (λ start. Read (opening_by experts holders start))
-opening_read _ files input = Refused
+opening_read (Replay file known) tells input = then (replay_read file known tells input) (λ r. Read r.opening)
+opening_read (Explore file known names experts) tells input =
+    then (explore_read file known names experts tells) (λ start. Read (opening_of start.table (length start.tables) start.settings))
+opening_read (Serve file known experts holders listen) tells input =
+    then (start_read file known tells) (λ start. Read (opening_by experts holders start))
+opening_read _ tells input = Refused
 
 -- the lines of the basis of what is recorded, beside what is known
 abbrev pub known_basis_lines : Exploration → Text
@@ -55,9 +55,9 @@ pub record TellsExploration (opened : Reading Opening) (text : Text) : Type 0 wh
 
 -- if the command explores, the text tells of the exploration of its table, as its words, these files and this input say
 abbrev pub HasCourse : Command → (Text → Told) → Option Text → Text → Type 0
-HasCourse (Replay file known) files input text = TellsExploration (opening_read (Replay file known) files input) text
-HasCourse (Explore file known names experts) files input text =
-    TellsExploration (opening_read (Explore file known names experts) files input) text
-HasCourse (Serve file known experts holders listen) files input text =
-    TellsExploration (opening_read (Serve file known experts holders listen) files input) text
-HasCourse _ files input text = ⊤
+HasCourse (Replay file known) tells input text = TellsExploration (opening_read (Replay file known) tells input) text
+HasCourse (Explore file known names experts) tells input text =
+    TellsExploration (opening_read (Explore file known names experts) tells input) text
+HasCourse (Serve file known experts holders listen) tells input text =
+    TellsExploration (opening_read (Serve file known experts holders listen) tells input) text
+HasCourse _ tells input text = ⊤

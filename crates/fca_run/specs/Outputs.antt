@@ -21,9 +21,9 @@ use Rattle.fca_run.specs.Reports.{report_output}
 
 -- what `scale` writes: the table that the plan in one file makes of the values in the other, in the Burmeister form
 abbrev pub scale_output : Text → Text → (Text → Told) → Reading Output
-scale_output values plan files =
-    then (values_read (files values)) (λ t.
-    then (plan_read t (files plan)) (λ p.
+scale_output values plan tells =
+    then (values_read (tells values)) (λ t.
+    then (plan_read t (tells plan)) (λ p.
     Read (finished (cxt_text (scaled t p)))))
 
 -- ---- tables that are made
@@ -40,17 +40,17 @@ survey_output recipe = finished (surveyed_text (recipe_table recipe))
 
 -- What a command that reports on no table writes. `explore` and `serve` write what experts did together, and the files do not say that
 abbrev pub other_output : Command → (Text → Told) → Option Text → Reading Output
-other_output (Scale values plan) files input = scale_output values plan files
-other_output (Replay file known) files input = replay_output file known files input
-other_output (Make s o m d) files input = Read (make_output (record { seed = s; objects = o; attributes = m; density = d }))
-other_output (Survey s o m d experts) files input = Read (survey_output (record { seed = s; objects = o; attributes = m; density = d }))
-other_output _ files input = Untold
+other_output (Scale values plan) tells input = scale_output values plan tells
+other_output (Replay file known) tells input = replay_output file known tells input
+other_output (Make s o m d) tells input = Read (make_output (record { seed = s; objects = o; attributes = m; density = d }))
+other_output (Survey s o m d experts) tells input = Read (survey_output (record { seed = s; objects = o; attributes = m; density = d }))
+other_output _ tells input = Untold
 
 -- what the command writes, by the file that it reports on, if there is one
 abbrev pub output_by : Option Text → Command → (Text → Told) → Option Text → Reading Output
-output_by (Some file) command files input = report_output command file files
-output_by None command files input = other_output command files input
+output_by (Some file) command tells input = report_output command file tells
+output_by None command tells input = other_output command tells input
 
 -- what the command writes, if the files and the input hold this
 abbrev pub command_output : Command → (Text → Told) → Option Text → Reading Output
-command_output command files input = output_by (report_file command) command files input
+command_output command tells input = output_by (report_file command) command tells input

@@ -87,5 +87,5 @@ table_report _ table = Refused
 
 -- what the command reports of the table in the file
 abbrev pub report_output : Command → Text → (Text → Told) → Reading Output
-report_output command file files =
-    then (table_read file (files file)) (λ table. then (table_report command table) (λ text. Read (finished text)))
+report_output command file tells =
+    then (table_read file (tells file)) (λ table. then (table_report command table) (λ text. Read (finished text)))

@@ -5,7 +5,7 @@ ghost use Rattle.std.specs.Io.KnownBytes.{IsAtEnd};
 ghost use Rattle.fca_io.specs.Faults.{RoseAtMost};
 ghost use Rattle.fca_command.specs.Commands.{command_form, report_file, files_of, reads_input, waits_for_nobody, IsWithinLimits};
 ghost use Rattle.command_io.specs.Readings.{MayRead, MayRefuse, SameCounts};
-ghost use Rattle.command_io.specs.Causes.{UnlessFault};
+ghost use Rattle.command_io.specs.Causes.{UnlessReadFault};
 ghost use Rattle.command_io.specs.Endings.{IsRefusal, IsOfFile};
 ghost use Rattle.command_io.specs.Streams.{moment, HasConcluded};
 ghost use Rattle.fca_run.specs.Outputs.{command_output, other_output};
@@ -56,7 +56,7 @@ pub fn run<R: Threads + Wait + Sync, H: Shelf, S: Source, K: Sink, E: Sink, L: L
                 return run_plain(rt, alloc, &command, shelf, input, out, err);
             }
             let output = waiting_output(rt, alloc, &command, shelf, link);
-            finish(rt, &command, output, out, err)
+            conclude_command(rt, &command, output, out, err)
         }
         Ok(None) => conclude(rt, Err(Stop::NoCommand), b"", out, err),
         Err(Memory) => conclude(rt, Err(Stop::Memory), b"", out, err),
@@ -144,11 +144,11 @@ pub fn run_plain<R: Threads + Sync, H: Shelf, S: Source, K: Sink, E: Sink>(
         (moment E.held E.faults err.old) (moment E.held E.faults err.new) result }
 {
     let output = plain_output(rt, alloc, command, shelf, input);
-    finish(rt, command, output, out, err)
+    conclude_command(rt, command, output, out, err)
 }
 
 /// Writes the output of the command to out, or the cause of its stop to err, and returns the status.
-fn finish<R: Threads + Sync, K: Sink, E: Sink>(
+fn conclude_command<R: Threads + Sync, K: Sink, E: Sink>(
     rt: &R,
     command: &Command,
     output: Result<Output, Stop>,
@@ -207,9 +207,9 @@ fn plain_output<R: Threads + Sync, H: Shelf, S: Source>(
     ensures cause { IfErr result (IsCommandStop command.now
         (outside (shelf_moment H.tells H.faults H.fetches shelf.old) (moment S.left S.faults input.old) unlinked)
         (outside (shelf_moment H.tells H.faults H.fetches shelf.new) (moment S.left S.faults input.new) unlinked)) }
-    ensures quiet { UnlessFault result (SameCounts (H.faults shelf.old) (H.faults shelf.new)) }
+    ensures quiet { UnlessReadFault result (SameCounts (H.faults shelf.old) (H.faults shelf.new)) }
     ensures few { RoseAtMost (H.fetches shelf.old) (H.fetches shelf.new) (length (files_of command.now)) }
-    ensures quiet_input { UnlessFault result (S.faults input.new ≡ S.faults input.old) }
+    ensures quiet_input { UnlessReadFault result (S.faults input.new ≡ S.faults input.old) }
     ensures refused { IfErr result (λ stop. IsRefusal stop → MayRefuse (command_output command.now (H.tells shelf.old) (S.left input.old))) }
     ensures read_to_end { reads_input command.now ≡ true → OnOk result (IsAtEnd (S.left input.new)) }
     ensures input_kept { reads_input command.now ≡ false → input.new ≡ input.old }
@@ -237,9 +237,9 @@ fn other_output<H: Shelf, S: Source>(
     ensures cause { IfErr result (IsOtherStop command.now
         (outside (shelf_moment H.tells H.faults H.fetches shelf.old) (moment S.left S.faults input.old) unlinked)
         (outside (shelf_moment H.tells H.faults H.fetches shelf.new) (moment S.left S.faults input.new) unlinked)) }
-    ensures quiet { UnlessFault result (SameCounts (H.faults shelf.old) (H.faults shelf.new)) }
+    ensures quiet { UnlessReadFault result (SameCounts (H.faults shelf.old) (H.faults shelf.new)) }
     ensures few { RoseAtMost (H.fetches shelf.old) (H.fetches shelf.new) (length (files_of command.now)) }
-    ensures quiet_input { UnlessFault result (S.faults input.new ≡ S.faults input.old) }
+    ensures quiet_input { UnlessReadFault result (S.faults input.new ≡ S.faults input.old) }
     ensures refused { IfErr result (λ stop. IsRefusal stop → MayRefuse (other_output command.now (H.tells shelf.old) (S.left input.old))) }
     ensures read_to_end { reads_input command.now ≡ true → OnOk result (IsAtEnd (S.left input.new)) }
     ensures input_kept { reads_input command.now ≡ false → input.new ≡ input.old }

@@ -7,7 +7,7 @@ ghost use Rattle.fca_command.specs.Commands.{report_file};
 ghost use Rattle.command_io.specs.Readings.{then, MayRead, MayRefuse, Rises, SameCounts};
 ghost use Rattle.command_io.specs.Readings.Reading.{Refused, Read};
 ghost use Rattle.fca_io.specs.Faults.{Rose, one_more};
-ghost use Rattle.command_io.specs.Causes.{UnlessFault, IsFileStop};
+ghost use Rattle.command_io.specs.Causes.{UnlessReadFault, IsFileStop};
 ghost use Rattle.command_io.specs.Forms.{table_read};
 ghost use Rattle.command_io.specs.Endings.{finished, IsRefusal};
 ghost use Rattle.fca_run.specs.Reports.{attributes_read, table_concepts, table_basis, table_direct, verdict_read};
@@ -46,7 +46,7 @@ pub fn report_output<R: Threads + Sync, H: Shelf>(
     ensures refused { IfErr result (λ stop. IsRefusal stop → MayRefuse (report_output command.now file.now (H.tells shelf.old))) }
     ensures cause { IfErr result (IsReportStop command.now file.now (H.tells shelf.old file.now)
         (Rises (H.faults shelf.old) (H.faults shelf.new) file.now)) }
-    ensures quiet { UnlessFault result (SameCounts (H.faults shelf.old) (H.faults shelf.new)) }
+    ensures quiet { UnlessReadFault result (SameCounts (H.faults shelf.old) (H.faults shelf.new)) }
     ensures counted { H.fetches shelf.new ≡ option_map one_more (H.fetches shelf.old) }
 {
     match command {
@@ -71,7 +71,7 @@ fn narrow_output<R: Threads + Sync, H: Shelf>(
     ensures refused { IfErr result (λ stop. IsRefusal stop → MayRefuse (table_read file.now (H.tells shelf.old file.now))) }
     ensures cause { IfErr result (IsFileStop file.now (H.tells shelf.old file.now)
         (Rose (H.faults shelf.old file.now) (H.faults shelf.new file.now)) Origin.File) }
-    ensures quiet { UnlessFault result (SameCounts (H.faults shelf.old) (H.faults shelf.new)) }
+    ensures quiet { UnlessReadFault result (SameCounts (H.faults shelf.old) (H.faults shelf.new)) }
     ensures counted { H.fetches shelf.new ≡ option_map one_more (H.fetches shelf.old) }
 {
     let table = load_narrow_table(alloc, shelf, file, Origin::File)?;
@@ -115,7 +115,7 @@ fn table_output<R: Threads + Sync, H: Shelf>(
     ensures refused { IfErr result (λ stop. IsRefusal stop → MayRefuse (report_output command.now file.now (H.tells shelf.old))) }
     ensures cause { IfErr result (IsReportStop command.now file.now (H.tells shelf.old file.now)
         (Rises (H.faults shelf.old) (H.faults shelf.new) file.now)) }
-    ensures quiet { UnlessFault result (SameCounts (H.faults shelf.old) (H.faults shelf.new)) }
+    ensures quiet { UnlessReadFault result (SameCounts (H.faults shelf.old) (H.faults shelf.new)) }
     ensures counted { H.fetches shelf.new ≡ option_map one_more (H.fetches shelf.old) }
 {
     let table = load_table(alloc, shelf, file, Origin::File)?;

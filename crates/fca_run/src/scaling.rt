@@ -5,7 +5,7 @@ ghost use Rattle.fca_io.specs.Faults.{RoseAtMost};
 ghost use Rattle.context_scaling.specs.Scaling.{Fits, scaled};
 ghost use Rattle.cxt_format.specs.Written.{cxt_text};
 ghost use Rattle.command_io.specs.Readings.{MayRead, MayRefuse, Rises, SameCounts};
-ghost use Rattle.command_io.specs.Causes.{UnlessFault};
+ghost use Rattle.command_io.specs.Causes.{UnlessReadFault};
 ghost use Rattle.command_io.specs.Endings.{IsRefusal};
 ghost use Rattle.fca_run.specs.Outputs.{scale_output};
 ghost use Rattle.fca_run.specs.Causes.{IsScaleStop};
@@ -29,7 +29,7 @@ pub fn scale_output<H: Shelf>(
     ensures finished { IfOk result (λ output. output.ending ≡ Ending.Finished) }
     ensures refused { IfErr result (λ stop. IsRefusal stop → MayRefuse (scale_output values.now plan.now (H.tells shelf.old))) }
     ensures cause { IfErr result (IsScaleStop values.now plan.now (H.tells shelf.old) (Rises (H.faults shelf.old) (H.faults shelf.new))) }
-    ensures quiet { UnlessFault result (SameCounts (H.faults shelf.old) (H.faults shelf.new)) }
+    ensures quiet { UnlessReadFault result (SameCounts (H.faults shelf.old) (H.faults shelf.new)) }
     ensures few { RoseAtMost (H.fetches shelf.old) (H.fetches shelf.new) 2 }
 {
     let values = load_values(alloc, shelf, values, Origin::File)?;

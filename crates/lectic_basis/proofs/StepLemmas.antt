@@ -10,9 +10,9 @@ use Rattle.extent_blocks.specs.Blocks.{IsExtent}
 use Rattle.lectic_basis.specs.Forced.{AreForced, IsLonger, NoneToTry, IsLastToTry}
 use Rattle.lectic_basis.specs.Watches.{Watched}
 use Rattle.lectic_basis.specs.Walks.{IsBelow, IsTrying, HasFound, IsPart}
-use Rattle.lectic_basis.specs.Steps.{IsStep, IsBegun, IsFurther, HasTried, AreLeft, room_left}
+use Rattle.lectic_basis.specs.Steps.{IsStep, IsBegun, IsFurther, HasTried, AreLeft, steps_left}
 use Rattle.lectic_basis.specs.declared.tree.Step.{Step}
-use Rattle.fca_model.specs.Room.{room}
+use Rattle.fca_model.specs.Room.{steps_bound}
 use Rattle.fca_model.proofs.RoomLemmas.{room_less, room_below}
 use Rattle.lectic_basis.proofs.ForcedLemmas.{forced_more}
 use Rattle.lectic_basis.proofs.WalkLemmas.{trying, below_start, found_then, found_longer, none_found, last_found, tried_lacks}
@@ -60,7 +60,7 @@ module _ (S : List Rule) (K : Context) (Wanted : Watched → Type 0) {W : ℕ} (
       record {
         below = rw (f.intent, f.from) walk_step.below;
         found = rw (f.intent, f.end) (found_then found_behind done);
-        near = f.near;
+        extent = f.extent;
         forced = forced_more G.list.members H.list.members new.intent new.lists.forced.items longer f.forced;
         order = omega (arith, f.from, f.end, last.at_least);
         inside = omega (arith, f.end, last.in_range, walk_step.inside);
@@ -102,7 +102,7 @@ module _ {S : List Rule} {K : Context} {A : Set} {i : ℕ} {F G : Watched} {W : 
       below = rw (b.intent, b.from) below;
       found = rw b.intent (none_found new.lists.forced.items below forced (K.width - step.end) K.width step.end
           (omega (arith, b.inside)) b.order (omega arith) (below_start below) b.none);
-      near = rw b.intent b.near;
+      extent = rw b.intent b.extent;
       forced = rw (b.intent, b.forced) forced;
       order = omega (arith, b.order, b.from);
       inside = b.inside;
@@ -119,12 +119,12 @@ module _ {S : List Rule} {K : Context} {A : Set} {i : ℕ} {F G : Watched} {W : 
   tried_told (Ok (Some step)) told = tried_begun step told
 
 pub step_first : {S : List Rule} {K : Context} {W : ℕ} {F : Watched} (step : Step W) → IsBelow S K step.intent step.from F
-    → step.end ≡ K.width → IsExtent K step.intent step.lists.near
+    → step.end ≡ K.width → IsExtent K step.intent step.lists.extent
     → AreForced F.list.members step.intent step.lists.forced.items → IsStep S K step F F
-step_first step below all near forced = record {
+step_first step below all extent forced = record {
   below = below;
   found = rw all (below_start below);
-  near = near;
+  extent = extent;
   forced = forced;
   order = omega (arith, all, below.at.inside);
   inside = omega (arith, all);
@@ -133,24 +133,24 @@ step_first step below all near forced = record {
 -- ---- room for steps
 
 module _ (n : ℕ) {W : ℕ} {olds : List (Step W)} (steps : List (Step W)) (step : Step W) (is : olds ≡ steps ++ step ∷ []) where
-  all_room : room_left n olds ≡ room_left n steps + room n step.from step.end
-  all_room = ap (λ (xs : List (Step W)). room_left n xs) is ∙ sum_by_push (λ (s : Step W). room n s.from s.end) steps step
+  all_room : steps_left n olds ≡ steps_left n steps + steps_bound n step.from step.end
+  all_room = ap (λ (xs : List (Step W)). steps_left n xs) is ∙ sum_by_push (λ (s : Step W). steps_bound n s.from s.end) steps step
 
-  pub room_done : room_left n steps < room_left n olds
+  pub room_done : steps_left n steps < steps_left n olds
   room_done = omega (arith, all_room)
 
   module _ {news : List (Step W)} (new : Step W) {i : ℕ} (on : news ≡ steps ++ new ∷ []) (from : new.from ≡ step.from) (end : new.end ≡ i)
       (low : step.from ≤ i) (less : i < step.end) (inside : step.end ≤ n) where
-    new_room : room_left n news ≡ room_left n steps + room n step.from i
-    new_room = ap (λ (xs : List (Step W)). room_left n xs) on ∙ sum_by_push (λ (s : Step W). room n s.from s.end) steps new
-        ∙ ap₂ (λ f e. room_left n steps + room n f e) from end
+    new_room : steps_left n news ≡ steps_left n steps + steps_bound n step.from i
+    new_room = ap (λ (xs : List (Step W)). steps_left n xs) on ∙ sum_by_push (λ (s : Step W). steps_bound n s.from s.end) steps new
+        ∙ ap₂ (λ f e. steps_left n steps + steps_bound n f e) from end
 
-    pub room_tried : room_left n news < room_left n olds
+    pub room_tried : steps_left n news < steps_left n olds
     room_tried = omega (arith, all_room, new_room, room_less n step.from i step.end low less inside)
 
     pub room_deeper : {lasts : List (Step W)} (below : Step W) → lasts ≡ news ++ below ∷ [] → below.from ≡ i + 1
-        → room_left n lasts < room_left n olds
+        → steps_left n lasts < steps_left n olds
     room_deeper {lasts = lasts} below deeper next =
-        let last : room_left n lasts ≡ room_left n news + room n (i + 1) below.end = ap (λ (xs : List (Step W)). room_left n xs) deeper
-        ∙ sum_by_push (λ (s : Step W). room n s.from s.end) news below ∙ ap (λ f. room_left n news + room n f below.end) next in
+        let last : steps_left n lasts ≡ steps_left n news + steps_bound n (i + 1) below.end = ap (λ (xs : List (Step W)). steps_left n xs) deeper
+        ∙ sum_by_push (λ (s : Step W). steps_bound n s.from s.end) news below ∙ ap (λ f. steps_left n news + steps_bound n f below.end) next in
         omega (arith, all_room, new_room, last, room_below n step.from i step.end below.end low less inside)

@@ -16,7 +16,7 @@ use Rattle.fca_model.proofs.ListLemmas.{list_all-mono}
 use Rattle.attr_bits.proofs.DifferenceLemmas.{first_missing-parts}
 use Rattle.attr_bits.proofs.PlaceLemmas.{member_below}
 use Rattle.lectic_basis.proofs.BucketLemmas.{put_all}
-use Rattle.lectic_basis.specs.Watches.{bucket, Outside, Covers, IsGood, HasKept, IsFiled, IsPut, IsPutBefore, IsClosedBefore}
+use Rattle.lectic_basis.specs.Watches.{bucket, Outside, WaitOrConclude, IsGood, HasKept, IsFiled, IsPut, IsPutBefore, IsClosedBefore}
 use Rattle.lectic_basis.specs.Watches.{Differs}
 
 -- ---- one member more
@@ -55,7 +55,7 @@ module _ (n : ℕ) (J : List Rule) (old new : List (List Rule)) (w : ℕ) (i : R
 
 -- what is kept of J, with a member more whose conclusion is within B
 covers_more : (J : List Rule) (old new : List (List Rule)) (i : Rule) (A B : Set) → HasKept A old new → IsGood J old A → within A B ≡ true
-    → within i.conclusion B ≡ true → Covers (J ++ i ∷ []) new A B
+    → within i.conclusion B ≡ true → WaitOrConclude (J ++ i ∷ []) new A B
 covers_more J old new i A B kept good up mine p out =
     list_all-append (λ j. within j.conclusion B || p j) J (i ∷ [])
     ∙ and_from (list_all (λ j. within j.conclusion B || p j) J) ((within i.conclusion B || p i) && true)
@@ -87,7 +87,7 @@ push_good n J old new (suc m) i put X k e l good = let same : k ≡ m = omega (a
     put_good n J old new m i put X (subst (λ u. get_or X u false ≡ false) same l) good
 
 pub push_covers : (n : ℕ) (J : List Rule) (old new : List (List Rule)) (from : ℕ) (i : Rule) → IsPutBefore from old new i → (A B : Set)
-    → IsGood J old A → within A B ≡ true → within i.conclusion B ≡ true → Covers (J ++ i ∷ []) new A B
+    → IsGood J old A → within A B ≡ true → within i.conclusion B ≡ true → WaitOrConclude (J ++ i ∷ []) new A B
 push_covers n J old new zero i put A B good up mine =
     covers_more J old new i A B (λ p out. subst (λ Bs. Outside A p Bs) put out) good up mine
 push_covers n J old new (suc k) i put A B good up mine = covers_more J old new i A B (put_kept n J old new k i put A) good up mine
@@ -99,7 +99,7 @@ pub kept_good : (J : List Rule) (old new : List (List Rule)) (X : Set) → HasKe
 kept_good J old new X kept good p out = good p (kept p out)
 
 -- a good set covers what is larger
-pub good_covers : (J : List Rule) (Bs : List (List Rule)) (A B : Set) → within A B ≡ true → IsGood J Bs A → Covers J Bs A B
+pub good_covers : (J : List Rule) (Bs : List (List Rule)) (A B : Set) → within A B ≡ true → IsGood J Bs A → WaitOrConclude J Bs A B
 good_covers J Bs A B up good p out =
     list_all-mono (λ j. within j.conclusion A || p j) (λ j. within j.conclusion B || p j)
     (λ j h. wider (within j.conclusion A) (within j.conclusion B) (p j) (λ t. within_trans j.conclusion A B t up) h) J (good p out)

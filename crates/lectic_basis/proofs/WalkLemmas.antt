@@ -18,7 +18,7 @@ use Rattle.extent_blocks.proofs.ExtentLemmas.{extent_larger, extent_shared}
 use Rattle.lectic_basis.specs.Trees.{InFamily, IsLeastBehind, up_to, members_where, found_where}
 use Rattle.lectic_basis.specs.Walks.{IsVisit, IsBelow, IsTrying, HasFound, IsPart, IsPartBefore}
 use Rattle.lectic_basis.specs.Forced.{AreForced, IsLastToTry, IsLonger, NoneToTry, is_to_try}
-use Rattle.lectic_basis.specs.Watches.{Watched, IsFiled, IsGood, CanClose, HasMoved, IsClosedBefore, Differs, IsBounded, IsPutBefore, Covers}
+use Rattle.lectic_basis.specs.Watches.{Watched, IsFiled, IsGood, CanClose, HasMoved, IsClosedBefore, Differs, IsBounded, IsPutBefore, WaitOrConclude}
 use Rattle.lectic_basis.proofs.PlaceLemmas.{up_to_member, agree_with, agree_less, up_to_less}
 use Rattle.lectic_basis.proofs.FamilyLemmas.{family_of_closed, closed_closure, same_where, where_all, where_at, where_known}
 use Rattle.lectic_basis.proofs.FamilyLemmas.{closed_respects_where}
@@ -111,7 +111,7 @@ module _ {S : List Rule} {K : Context} {A : Set} {from : ℕ} {F : Watched} (v :
           above = closure_up;
           agree = agree;
           filed = filed_pushed;
-          covers = subst (λ (M : RuleList). Covers M.members G.buckets A B) (sym list)
+          covers = subst (λ (M : RuleList). WaitOrConclude M.members G.buckets A B) (sym list)
               (push_covers F.list.width F.list.members F.buckets G.buckets from (rule A B) put A B v.at.good closure_up (within_refl B));
         }
 

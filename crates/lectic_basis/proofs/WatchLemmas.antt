@@ -20,7 +20,7 @@ use Rattle.attr_bits.proofs.DifferenceLemmas.{first_missing-parts}
 use Rattle.attr_bits.proofs.PlaceLemmas.{member_below}
 use Rattle.implication_closure.specs.Closing.{RuleList, has_width, HaveWidth}
 use Rattle.lectic_basis.proofs.BucketLemmas.{moved_all}
-use Rattle.lectic_basis.specs.Watches.{Watched, CanClose, HasMoved, bucket, waiting_at, Outside, Covers, IsGood, HasKept, IsSorted, IsFiled}
+use Rattle.lectic_basis.specs.Watches.{Watched, CanClose, HasMoved, bucket, waiting_at, Outside, WaitOrConclude, IsGood, HasKept, IsSorted, IsFiled}
 use Rattle.lectic_basis.specs.Watches.{IsMoved, IsSettling, IsClosedBefore, Differs, IsBounded}
 
 -- a set between two that agree
@@ -166,7 +166,7 @@ pub record IsClosing (n : ℕ) (J : List Rule) (limit : ℕ) (A X P D : Set) (ol
   pub part : within P D ≡ true
   pub above : within X D ≡ true
   pub filed : IsFiled n J new
-  pub covers : Covers J new P D
+  pub covers : WaitOrConclude J new P D
   pub kept : (Y : Set) → within Y A ≡ true → HasKept Y old new
   pub bounded : (T : Set) → within X T ≡ true → respects_all J T ≡ true → within D T ≡ true
   pub agree : agree_before limit A D ≡ true
@@ -247,7 +247,7 @@ module _ {n : ℕ} {J : List Rule} {limit : ℕ} {A X : Set} {old : List (List R
         wider : within P (set P z true) ≡ true
         wider = within_set P z
 
-        covers_next : Covers J new (set P z true) E
+        covers_next : WaitOrConclude J new (set P z true) E
         covers_next p out =
             let all_mid : Outside P (λ i. within i.conclusion E || p i) mid =
             s.kept P c.part z_lacks (λ i. within i.conclusion E || p i) (λ w l. elim (cases_eq w z) [
@@ -289,7 +289,7 @@ module _ {n : ℕ} {J : List Rule} {limit : ℕ} {A X : Set} {old : List (List R
     pub closing_end : length X ≡ n → first_missing 0 D P ≡ None → IsClosedBefore J mid limit A X D
     closing_end x_wide none =
         let one : P ≡ D = within_antisymm P D (c.p_wide ∙ sym c.d_wide) c.part (first_missing_none 0 D P none) in
-        let good : IsGood J mid D = subst (λ R. Covers J mid R D) one c.covers in
+        let good : IsGood J mid D = subst (λ R. WaitOrConclude J mid R D) one c.covers in
         record {
           closure = record {
             wide = c.d_wide ∙ sym x_wide;

@@ -8,14 +8,14 @@ use Rattle.extent_blocks.specs.Blocks.{IsExtent}
 use Rattle.lectic_basis.specs.Forced.{AreForced, NoneToTry}
 use Rattle.lectic_basis.specs.Watches.{Watched}
 use Rattle.lectic_basis.specs.Walks.{IsBelow, HasFound, IsPart}
-use Rattle.fca_model.specs.Room.{room}
+use Rattle.fca_model.specs.Room.{steps_bound}
 use Rattle.lectic_basis.specs.declared.tree.Step.{Step}
 
 -- the step was begun when `first` was found, and now F is; all from its end on were visited
 pub record IsStep (S : List Rule) (K : Context) {W : ℕ} (step : Step W) (first F : Watched) : Type 0 where
   pub below : IsBelow S K step.intent step.from first
   pub found : HasFound S K step.intent step.end (IsPart step.intent) first F
-  pub near : IsExtent K step.intent step.lists.near
+  pub extent : IsExtent K step.intent step.lists.extent
   pub forced : AreForced F.list.members step.intent step.lists.forced.items
   pub order : step.from ≤ step.end
   pub inside : step.end ≤ K.width
@@ -24,7 +24,7 @@ pub record IsStep (S : List Rule) (K : Context) {W : ℕ} (step : Step W) (first
 pub record IsBegun (K : Context) (A : Set) (start : ℕ) (ws : List ℕ) {W : ℕ} (step : Step W) : Type 0 where
   pub intent : step.intent ≡ A
   pub from : step.from ≡ start
-  pub near : IsExtent K A step.lists.near
+  pub extent : IsExtent K A step.lists.extent
   pub forced : step.lists.forced.items ≡ ws
   pub order : start ≤ step.end
   pub inside : step.end ≤ K.width
@@ -35,7 +35,7 @@ pub record IsFurther (K : Context) (i : ℕ) (G : Watched) {W : ℕ} (old new : 
   pub intent : new.intent ≡ old.intent
   pub from : new.from ≡ old.from
   pub end : new.end ≡ i
-  pub near : IsExtent K new.intent new.lists.near
+  pub extent : IsExtent K new.intent new.lists.extent
   pub forced : AreForced G.list.members new.intent new.lists.forced.items
 
 -- all below that comes of attribute i was visited, or is once all below the step told is
@@ -52,6 +52,6 @@ AreLeft S K Wanted (step ∷ steps) F =
     (first : Watched) × IsStep S K step first F × ((G : Watched) → HasFound S K step.intent step.from (IsPart step.intent) first G
     → AreLeft S K Wanted steps G)
 
--- the room for steps that is left
-abbrev pub room_left : ℕ → {W : ℕ} → List (Step W) → ℕ
-room_left n steps = sum_by (λ step. room n step.from step.end) steps
+-- how many steps are left at most
+abbrev pub steps_left : ℕ → {W : ℕ} → List (Step W) → ℕ
+steps_left n steps = sum_by (λ step. steps_bound n step.from step.end) steps

@@ -38,12 +38,12 @@ abbrev pub Outside : Set → (Rule → Bool) → List (List Rule) → Type 0
 Outside X p Bs = (w : ℕ) → slice_index_or X w false ≡ false → list_all p (bucket w Bs) ≡ true
 
 -- each member of J waits for an attribute outside P, or has its conclusion within D
-abbrev pub Covers : List Rule → List (List Rule) → Set → Set → Type 0
-Covers J Bs P D = (p : Rule → Bool) → Outside P p Bs → list_all (λ i. within i.conclusion D || p i) J ≡ true
+abbrev pub WaitOrConclude : List Rule → List (List Rule) → Set → Set → Type 0
+WaitOrConclude J Bs P D = (p : Rule → Bool) → Outside P p Bs → list_all (λ i. within i.conclusion D || p i) J ≡ true
 
 -- the same of one set
 abbrev pub IsGood : List Rule → List (List Rule) → Set → Type 0
-IsGood J Bs X = Covers J Bs X X
+IsGood J Bs X = WaitOrConclude J Bs X X
 
 -- what waits for attributes outside X still does so
 abbrev pub HasKept : Set → List (List Rule) → List (List Rule) → Type 0
@@ -99,7 +99,7 @@ pub record CanClose (F : Watched) (limit : ℕ) (A X : Set) : Type 0 where
   pub above : within A X ≡ true
   pub agree : agree_before limit A X ≡ true
   pub filed : IsFiled F.list.width F.list.members F.buckets
-  pub covers : Covers F.list.members F.buckets A X
+  pub covers : WaitOrConclude F.list.members F.buckets A X
 
 -- members went to other buckets, so that each set within A is as good as before
 pub record HasMoved (A : Set) (old new : Watched) : Type 0 where

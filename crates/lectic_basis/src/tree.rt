@@ -24,7 +24,7 @@ use std::alloc::Global;
 /// What goes down the tree with an intent: the places of the rows that contain it, and what attributes force. Later steps use the lists of a step again.
 #[derive(Drop)]
 pub(crate) struct StepLists {
-    pub(crate) near: BlockExtent,
+    pub(crate) extent: BlockExtent,
     pub(crate) forced: Vec<u32>,
 }
 
@@ -102,7 +102,7 @@ fn next_below<const W: usize>(
 ) -> Result<Option<Step<W>>, Memory>
     requires trying { IsTrying known.now.members indexed.now step.old.intent i found.old }
     requires lacks { slice_index_or step.old.intent i false ≡ false }
-    requires near { IsExtent indexed.now step.old.intent step.old.lists.near }
+    requires extent { IsExtent indexed.now step.old.intent step.old.lists.extent }
     requires forced { AreForced found.old.list.members step.old.intent step.old.lists.forced.items }
     ensures { IfOk result (λ below. HasTried known.now.members indexed.now i found.old found.new step.old step.new below) }
 {
@@ -134,7 +134,7 @@ fn step_below<const W: usize>(
 ) -> Result<Option<Step<W>>, Memory>
     requires inside { i < indexed.now.width }
     requires wide { length a.now ≡ indexed.now.width }
-    requires near { IsExtentWith indexed.now a.now i parent.now.near }
+    requires extent { IsExtentWith indexed.now a.now i parent.now.extent }
     ensures { IfOk result (λ step. MatchOption step
         (NoneToTry a.now parent.now.forced.items (i + 1) indexed.now.width)
         (IsBegun indexed.now a.now (i + 1) parent.now.forced.items)) }
@@ -192,11 +192,11 @@ fn child_at<const W: usize>(
 ) -> Result<Option<Bits<W>>, Memory>
     requires trying { IsTrying known.now.members indexed.now a.now i found.old }
     requires lacks { slice_index_or a.now i false ≡ false }
-    requires near { IsExtent indexed.now a.now lists.old.near }
+    requires extent { IsExtent indexed.now a.now lists.old.extent }
     requires forced { AreForced found.old.list.members a.now lists.old.forced.items }
     ensures below { IfOk result (λ child. IfSome child (λ b. IsBelow known.now.members indexed.now b (i + 1) found.new)) }
-    ensures same { lists.new.near ≡ lists.old.near }
-    ensures near { IfOk result (λ child. IfSome child (λ b. IsExtentWith indexed.now b i lists.new.near)) }
+    ensures same { lists.new.extent ≡ lists.old.extent }
+    ensures extent { IfOk result (λ child. IfSome child (λ b. IsExtentWith indexed.now b i lists.new.extent)) }
     ensures done { IfOk result (λ child. MatchOption child
         (HasFound known.now.members indexed.now a.now i (IsPart a.now) found.old found.new)
         (λ b. (new : Watched) → HasFound known.now.members indexed.now b (i + 1) (IsPart b) found.new new → HasFound known.now.members indexed.now a.now i (IsPart a.now) found.old new)) }
@@ -210,7 +210,7 @@ fn child_at<const W: usize>(
         note(&mut lists.forced, a, i, &reached, from, supports);
         return Ok(None);
     }
-    let closed = lists.near.closure_among(indexed, i, &reached);
+    let closed = lists.extent.closure_among(indexed, i, &reached);
     let child = visit(indexed, known, found, &reached, &closed, i + 1)?;
     match child {
         None => {
@@ -272,17 +272,17 @@ fn first_step<const W: usize>(
     ensures intent { IfOk result (λ step. step.intent ≡ a.now) }
     ensures from { IfOk result (λ step. step.from ≡ from) }
     ensures end { IfOk result (λ step. step.end ≡ indexed.now.width) }
-    ensures near { IfOk result (λ step. IsExtent indexed.now a.now step.lists.near) }
+    ensures extent { IfOk result (λ step. IsExtent indexed.now a.now step.lists.extent) }
     ensures forced { IfOk result (λ step. AreForced found.now.list.members a.now step.lists.forced.items) }
 {
     let end = indexed.rows().width();
-    let near = BlockExtent::of(alloc, indexed, a)?;
+    let extent = BlockExtent::of(alloc, indexed, a)?;
     let forced = initial_forces(alloc, found, a)?;
     Ok(Step {
         intent: *a,
         from,
         end,
-        lists: StepLists { near, forced },
+        lists: StepLists { extent, forced },
     })
 }
 
@@ -291,7 +291,7 @@ fn take_spare(alloc: Global, spare: &mut Vec<StepLists>) -> StepLists {
     match spare.pop() {
         Some(lists) => lists,
         None => StepLists {
-            near: BlockExtent::new(alloc),
+            extent: BlockExtent::new(alloc),
             forced: Vec::new(alloc),
         },
     }
@@ -306,11 +306,11 @@ fn fill<const W: usize>(
     parent: &StepLists,
 ) -> Result<(), Memory>
     requires inside { i < indexed.now.width }
-    requires extent { IsExtentWith indexed.now a.now i parent.now.near }
-    ensures near { OnOk result (IsExtent indexed.now a.now lists.new.near) }
+    requires extent { IsExtentWith indexed.now a.now i parent.now.extent }
+    ensures extent { OnOk result (IsExtent indexed.now a.now lists.new.extent) }
     ensures forced { OnOk result (lists.new.forced.items ≡ parent.now.forced.items) }
 {
-    lists.near.set_having(&parent.near, indexed, i)?;
+    lists.extent.set_having(&parent.extent, indexed, i)?;
     lists.forced.clear();
     lists.forced.extend_from_slice(&parent.forced)?;
     Ok(())

@@ -19,7 +19,7 @@ use Rattle.fca_model.proofs.ListLemmas.{list_all_from, list_all-filter_kept, fil
 use Rattle.fca_model.proofs.SetLemmas.{same_refl, same-true, same_from, lectic_refl}
 use Rattle.fca_model.proofs.ClosureLemmas.{length-closure}
 use Rattle.fca_model.proofs.LevelLemmas.{level_all}
-use Rattle.level_queue.specs.Queue.{QueueModel, HasPart, IsQueue}
+use Rattle.level_queue.specs.Queue.{QueueModel, HasPartUpTo, IsQueue}
 use Rattle.level_queue.specs.Rules.{RuleParts}
 use Rattle.level_queue.proofs.RowLemmas.{questions_all}
 
@@ -67,7 +67,7 @@ module _ (S : List Rule) (K : Context) (k : ℕ) (acc questions : List Rule) (q 
       (subst (λ is. list_all (λ j. not (has_premise acc j.premise)) is ≡ true) (sym q.questions_are)
       (filter_passes (λ j. not (has_premise acc j.premise)) (level_of S K k))))
 
-  part_more : HasPart S K k (acc ++ i ∷ [])
+  part_more : HasPartUpTo S K k (acc ++ i ∷ [])
   part_more = record {
     sound = λ p b. list_all-append p acc (i ∷ [])
         ∙ and_from (list_all p acc) (p i && true) (q.part.sound p b) (and_from (p i) true (question_member p b) refl);

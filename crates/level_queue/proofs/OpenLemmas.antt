@@ -26,7 +26,7 @@ use Rattle.fca_model.proofs.DoneLemmas.{basis_increasing}
 use Rattle.fca_model.proofs.QuestionLemmas.{open_none}
 use Rattle.fca_model.proofs.LevelLemmas.{level_waiting, none_waits, smallest_is, level_all}
 use Rattle.next_level.specs.NextLevel.{IsNextLevel}
-use Rattle.level_queue.specs.Queue.{HasPart, IsQueue, IsKeptQueue, narrowed, is_unclosed, still_open}
+use Rattle.level_queue.specs.Queue.{HasPartUpTo, IsQueue, IsKeptQueue, narrowed, is_unclosed, still_open}
 use Rattle.level_queue.proofs.RowLemmas.{questions_all, row_keeps_queue}
 use Rattle.level_queue.proofs.NarrowLemmas.{closure-with_row, narrowed_in}
 use Rattle.level_queue.proofs.AcceptLemmas.{question_member, question_size, question_new, question_wide, conclusion_wide}
@@ -53,7 +53,7 @@ none_heard k (i ∷ acc) P h e =
     ]
 
 module _ (S : List Rule) (K : Context) (k : ℕ) (acc : List Rule) where
-  part_from : HasBelow S K k acc → HasPart S K k acc
+  part_from : HasBelow S K k acc → HasPartUpTo S K k acc
   part_from h = record {
     sound = h.sound;
     small = list_all-mono (λ i. ltb (size i.premise) k) (λ i. leb (size i.premise) k)
@@ -64,7 +64,7 @@ module _ (S : List Rule) (K : Context) (k : ℕ) (acc : List Rule) where
   -- ---- what waits
 
   -- nothing below the level waits
-  none_below : HasPart S K k acc → list_all (λ i. leb k (size i.premise)) (waiting S K acc) ≡ true
+  none_below : HasPartUpTo S K k acc → list_all (λ i. leb k (size i.premise)) (waiting S K acc) ≡ true
   unfolding waiting
   none_below h = list_all-filter (λ i. leb k (size i.premise)) (λ i. not (has_premise acc i.premise)) (basis_known S K)
       ∙ list_all-mono (λ i. leb k (size i.premise) || has_premise acc i.premise)
@@ -79,7 +79,7 @@ module _ (S : List Rule) (K : Context) (k : ℕ) (acc : List Rule) where
       turn false false h = absurd (false≢true h)
 
   -- past the width nothing waits
-  pub past_open : HasPart S K k acc → K.width < k → open_questions S K acc ≡ []
+  pub past_open : HasPartUpTo S K k acc → K.width < k → open_questions S K acc ≡ []
   unfolding open_questions
   past_open h lt = ap smallest (none_waits S K acc
       (list_all-mono (λ i. leb k (size i.premise)) (λ i. leb (suc K.width) (size i.premise))
@@ -159,7 +159,7 @@ module _ (S : List Rule) (K : Context) (k : ℕ) (acc : List Rule) where
   -- ---- what is accepted
 
   -- the accepted implications are members, each with all smaller ones
-  pub accepted_from_part : HasPart S K k acc → distinct_premises acc ≡ true → IsAccepted S K acc
+  pub accepted_from_part : HasPartUpTo S K k acc → distinct_premises acc ≡ true → IsAccepted S K acc
   accepted_from_part h distinct = record {
     distinct = distinct;
     members = h.sound (is_member S K) (basis_all S K (is_member S K) (λ P e p. member_from S K P (closure K P) e p refl));

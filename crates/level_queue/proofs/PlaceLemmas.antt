@@ -23,7 +23,7 @@ use Rattle.fca_model.specs.Implications.{Rule, rule, premises}
 use Rattle.fca_model.specs.Invariant.{Among}
 use Rattle.fca_model.proofs.SetLemmas.{same_refl, same-true, lectic_refl}
 use Rattle.fca_model.proofs.SortedLemmas.{is_less, before_trans, not_before_itself}
-use Rattle.level_queue.specs.Queue.{narrowed, still_open, is_unclosed, is_left, is_rule}
+use Rattle.level_queue.specs.Queue.{narrowed, still_open, is_unclosed, is_left, is_same}
 use Rattle.level_queue.specs.QuestionLists.{IsPlaceFor}
 use Rattle.level_queue.proofs.NarrowLemmas.{left_some, left_none}
 
@@ -84,20 +84,20 @@ place_for P qs n l before behind = let long = length-map qs (λ (q : Rule). q.pr
       (of_premises (λ A. is_lt (lectic_cmp A P)) false qs n (length qs) behind);
 }
 
-is_rule-true : (q i : Rule) → is_rule q i ≡ true → i ≡ q
-is_rule-true q i h =
+is_same-true : (q i : Rule) → is_same q i ≡ true → i ≡ q
+is_same-true q i h =
     let both = and_parts (same i.premise q.premise) (same i.conclusion q.conclusion) h in
     ap₂ (λ P C. rule P C) (same-true i.premise q.premise both.0) (same-true i.conclusion q.conclusion both.1)
 
 -- the question stands at the place
 abbrev pub stands : Rule → ℕ → List Rule → Bool
-stands q n qs = ltb n (length qs) && is_rule q (get_or qs n q)
+stands q n qs = ltb n (length qs) && is_same q (get_or qs n q)
 
 -- what stands at the place
 pub rule_at : (qs : List Rule) (n : ℕ) (q : Rule) → stands q n qs ≡ true → slice_get qs n ≡ Some q
 rule_at qs n q h =
-    let parts = and_parts (ltb n (length qs)) (is_rule q (get_or qs n q)) h in
-    slice_get-get_or qs n q (ltb-true n (length qs) parts.0) ∙ ap (λ x. Some x) (is_rule-true q (get_or qs n q) parts.1)
+    let parts = and_parts (ltb n (length qs)) (is_same q (get_or qs n q)) h in
+    slice_get-get_or qs n q (ltb-true n (length qs) parts.0) ∙ ap (λ x. Some x) (is_same-true q (get_or qs n q) parts.1)
 
 -- a question that is among them stands at the place before which all come before it, and behind which none does
 pub rule_there : (qs : List Rule) (n : ℕ) (q : Rule) → increasing (premises qs) ≡ true → IsPlaceFor q.premise (premises qs) n → Among qs q
@@ -105,19 +105,19 @@ pub rule_there : (qs : List Rule) (n : ℕ) (q : Rule) → increasing (premises 
 rule_there qs n q up place among missing =
     false≢true (sym (ap not (and_from (same q.premise q.premise) (same q.conclusion q.conclusion) (same_refl q.premise)
     (same_refl q.conclusion)))
-    ∙ among (λ i. not (is_rule q i)) (list_all-from_AllPass (λ i. not (is_rule q i)) qs
-    (λ k d l. ap not (false_from_ne_true (is_rule q (get_or qs k d)) (λ t.
-    let one : get_or qs k d ≡ q = is_rule-true q (get_or qs k d) t in
+    ∙ among (λ i. not (is_same q i)) (list_all-from_AllPass (λ i. not (is_same q i)) qs
+    (λ k d l. ap not (false_from_ne_true (is_same q (get_or qs k d)) (λ t.
+    let one : get_or qs k d ≡ q = is_same-true q (get_or qs k d) t in
     let at : get_or qs k q ≡ q = get_or_default qs k q d l ∙ one in
     elim (cases_lt k n) [
       | inl lt ↦ not_before_itself q.premise (subst (λ (i : Rule). comes_before q.premise i ≡ true) at
           (of_questions (λ A. is_lt (lectic_cmp A q.premise)) true qs 0 n place.before k q (omega arith) lt))
       | inr ge ↦ elim (cases_eq n k) [
         | inl here ↦
-            let there : is_rule q (get_or qs n q) ≡ true =
-            subst (λ m. is_rule q (get_or qs m q) ≡ true) (sym here)
-            (subst (λ i. is_rule q i ≡ true) (sym at) (subst (λ i. is_rule q i ≡ true) one t)) in
-            false≢true (sym missing ∙ and_from (ltb n (length qs)) (is_rule q (get_or qs n q))
+            let there : is_same q (get_or qs n q) ≡ true =
+            subst (λ m. is_same q (get_or qs m q) ≡ true) (sym here)
+            (subst (λ i. is_same q i ≡ true) (sym at) (subst (λ i. is_same q i ≡ true) one t)) in
+            false≢true (sym missing ∙ and_from (ltb n (length qs)) (is_same q (get_or qs n q))
             (lt-ltb n (length qs) (omega (arith, l, here))) there)
         | inr other ↦
             let first : comes_before q.premise (get_or qs n q) ≡ true =

@@ -18,7 +18,7 @@ use Rattle.fca_model.proofs.SetLemmas.{size_strict, all_sets_widths}
 use Rattle.fca_model.proofs.PseudoLemmas.{pseudo_parts, pseudo_from, basis_all, basis_at}
 use Rattle.fca_model.proofs.SurvivalLemmas.{with_row, same_pseudo, survives, closure_stays, closed_stays}
 use Rattle.fca_model.proofs.LevelLemmas.{level_is}
-use Rattle.level_queue.specs.Queue.{HasPart, IsQueue, renewed, still_open}
+use Rattle.level_queue.specs.Queue.{HasPartUpTo, IsQueue, renewed, still_open}
 
 and_swap : (a b : Bool) → (a && b) ≡ (b && a)
 and_swap true true = refl
@@ -40,7 +40,7 @@ pub renew_is : (K : Context) (questions : List Rule) → still_open (map (renewe
 unfolding renew
 renew_is K questions = filter-map (λ i. not (same i.premise i.conclusion)) (renewed K) questions
 
-module _ (S : List Rule) (K : Context) (r : Set) (k : ℕ) (acc : List Rule) (h : HasPart S K k acc) (good : respects_all acc r ≡ true) where
+module _ (S : List Rule) (K : Context) (r : Set) (k : ℕ) (acc : List Rule) (h : HasPartUpTo S K k acc) (good : respects_all acc r ≡ true) where
   -- the row respects each pseudo-intent's implication below the level
   row_kept : (Q : Set) → length Q ≡ K.width → size Q < k → pseudo_known S K Q ≡ true → respects r (rule Q (closure K Q)) ≡ true
   row_kept Q e lt q = elim (or_cases (leb k (size Q)) (respects r (rule Q (closure K Q)))
@@ -59,7 +59,7 @@ module _ (S : List Rule) (K : Context) (r : Set) (k : ℕ) (acc : List Rule) (h 
   same_closure Q e lt q = closure_stays K r Q (row_kept Q e lt q)
 
   -- the accepted implications stay members, and those below the level stay all of them
-  part_row : HasPart S (with_row K r) k acc
+  part_row : HasPartUpTo S (with_row K r) k acc
   part_row = record {
     sound = λ p b.
         let t : Rule → Bool = λ i. leb (size i.premise) k && respects r i in

@@ -21,14 +21,14 @@ pub record QueueModel : Type 0 where
 -- ---- what is kept
 
 -- the accepted implications are basis members of sizes up to k, with each of size below k
-pub record HasPart (S : List Rule) (K : Context) (k : ℕ) (acc : List Rule) : Type 0 where
+pub record HasPartUpTo (S : List Rule) (K : Context) (k : ℕ) (acc : List Rule) : Type 0 where
   pub sound : (p : Rule → Bool) → list_all p (basis_known S K) ≡ true → list_all p acc ≡ true
   pub small : list_all (λ i. nat_le (size i.premise) k) acc ≡ true
   pub complete : (p : Rule → Bool) → list_all p acc ≡ true → list_all (λ i. nat_le k (size i.premise) || p i) (basis_known S K) ≡ true
 
 -- the questions are those of level k that were not accepted
 pub record IsQueue (S : List Rule) (K : Context) (k : ℕ) (acc questions : List Rule) : Type 0 where
-  pub part : HasPart S K k acc
+  pub part : HasPartUpTo S K k acc
   pub questions_are : questions ≡ filter (λ i. not (has_premise acc i.premise)) (level_of S K k)
 
 -- between two calls: what is known holds in the rows, no two accepted implications have one premise, and a level past the width is the only
@@ -62,5 +62,5 @@ abbrev pub is_left : Set → Rule → Bool
 is_left row i = is_unclosed (narrowed row i)
 
 -- i is the implication q
-abbrev pub is_rule : Rule → Rule → Bool
-is_rule q i = same i.premise q.premise && same i.conclusion q.conclusion
+abbrev pub is_same : Rule → Rule → Bool
+is_same q i = same i.premise q.premise && same i.conclusion q.conclusion

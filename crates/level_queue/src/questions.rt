@@ -6,7 +6,7 @@ ghost use Rattle.std.specs.List.{list_all, list_any, remove};
 ghost use Rattle.fca_model.specs.Sets.{increasing};
 ghost use Rattle.fca_model.specs.Implications.{Rule, premises};
 ghost use Rattle.fca_model.specs.Invariant.{Among};
-ghost use Rattle.level_queue.specs.Queue.{narrowed, still_open, is_unclosed, is_left, is_rule};
+ghost use Rattle.level_queue.specs.Queue.{narrowed, still_open, is_unclosed, is_left, is_same};
 
 use crate::question_list::{QuestionList, Row};
 use attr_bits::Attrs;
@@ -157,14 +157,14 @@ fn is_left(question: &Question, row: &Attrs) -> bool
 
 /// Whether the question stands at the place.
 fn is_question_at(questions: &[Question], place: usize, question: &Question) -> bool
-    ensures { result ≡ (nat_lt place (length questions.now) && is_rule question.now (slice_index_or questions.now place question.now)) }
+    ensures { result ≡ (nat_lt place (length questions.now) && is_same question.now (slice_index_or questions.now place question.now)) }
 {
     place < questions.len() && is_same(&questions[place], question)
 }
 
 /// Whether both are one question.
 fn is_same(one: &Question, other: &Question) -> bool
-    ensures { result ≡ is_rule other.now one.now }
+    ensures { result ≡ is_same other.now one.now }
 {
     one.premise == other.premise && one.conclusion == other.conclusion
 }

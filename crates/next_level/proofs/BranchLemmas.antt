@@ -28,7 +28,7 @@ use Rattle.lectic_basis.proofs.WaitLemmas.{push_filed, push_covers}
 use Rattle.next_level.specs.NextLevel.{IsOpen, everything, open_where}
 use Rattle.next_level.specs.Among.{AreAmong}
 use Rattle.next_level.specs.Branches.{IsRoot, AreOpen, HasParts, in_branch, in_part, in_parts, part_at}
-use Rattle.next_level.specs.LevelWalks.{IsInside, IsEntered, IsTrying}
+use Rattle.next_level.specs.LevelWalks.{IsInside, IsVisit, IsTrying}
 use Rattle.next_level.specs.declared.open_sets.OpenSets.{OpenSets}
 use Rattle.next_level.proofs.LevelWalkLemmas.{root_inside, inside_entered}
 use Rattle.next_level.proofs.NextLevelLemmas.{same_where, nothing_open, none_listed, other_where, open_append, open_lower, closure_has}
@@ -81,7 +81,7 @@ module _ {K : Context} {L : RuleList} {A : Set} (root : IsRoot K L A) where
 
 -- the walk of what agrees with the least set before an attribute
 pub root_entered : {K : Context} {A : Set} {from : ℕ} {F : Watched} → IsInside K A from F → IsInside K A 0 F → (c : ℕ) (Ls : List Rule)
-    → Ls ≡ [] → IsEntered K A from F c Ls
+    → Ls ≡ [] → IsVisit K A from F c Ls
 root_entered at root = inside_entered at (λ X x. root.least X x.wide x.respecting refl)
 
 -- ---- below the least set
@@ -108,7 +108,7 @@ module _ {K : Context} {A : Set} {F : Watched} (root : IsInside K A 0 F) (i : �
       filed = root.filed;
       good = root.good;
     };
-    level = refl;
+    listed = refl;
     inside = lt;
   }
 
@@ -200,7 +200,7 @@ module _ {K : Context} {A : Set} {F : Watched} (root : IsInside K A 0 F) (i : �
         same_members : G.list.members ≡ I
         same_members = ap (λ (M : RuleList). M.members) list ∙ ap (λ (M : RuleList). M.members ++ r ∷ []) same_list
 
-        pub branch_entered : (b : ℕ) (Ls : List Rule) → Ls ≡ [] → IsEntered K C (i + 1) G b Ls
+        pub branch_entered : (b : ℕ) (Ls : List Rule) → Ls ≡ [] → IsVisit K C (i + 1) G b Ls
         branch_entered = inside_entered branch_inside
             (λ X x. over X x.wide (subst (λ M. respects_all M X ≡ true) same_members x.respecting))
 

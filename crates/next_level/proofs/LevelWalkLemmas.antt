@@ -22,7 +22,7 @@ use Rattle.extent_blocks.proofs.ExtentLemmas.{extent_larger, extent_left}
 use Rattle.lectic_basis.specs.Trees.{before, up_to}
 use Rattle.next_level.specs.NextLevel.{IsLeastUnder, IsOpen, everything, open_where}
 use Rattle.next_level.specs.Among.{AreAmong, AllAmong, may_be_open, stands_at}
-use Rattle.next_level.specs.LevelWalks.{IsInside, IsEntered, IsLeft, IsTrying, HasLevel, IsSteady}
+use Rattle.next_level.specs.LevelWalks.{IsInside, IsVisit, IsBelow, IsTrying, HasListed, IsSteady}
 use Rattle.lectic_basis.specs.Watches.{Watched, IsFiled, IsGood, CanClose, HasMoved, IsClosedBefore, Differs}
 use Rattle.lectic_basis.proofs.PlaceLemmas.{agree_with, agree_less, agree_same, within_not_before}
 use Rattle.lectic_basis.proofs.TreeLemmas.{root_least}
@@ -46,38 +46,38 @@ root_inside K A F width a filed good from inside = record {
 -- nothing comes before what all contain
 pub inside_entered : {K : Context} {A : Set} {from : ℕ} {F : Watched} → IsInside K A from F
     → ((X : Set) → IsOpen F.list.members K everything X → within A X ≡ true)
-    → (b : ℕ) (Ls : List Rule) → Ls ≡ [] → IsEntered K A from F b Ls
+    → (b : ℕ) (Ls : List Rule) → Ls ≡ [] → IsVisit K A from F b Ls
 inside_entered {K = K} {A = A} {from = from} {F = F} at least b Ls none = record {
   at = at;
-  level = bound.nothing_open F.list.members K b (before from A) Ls (λ X x s. within_not_before from A X (least X x)) none;
+  listed = bound.nothing_open F.list.members K b (before from A) Ls (λ X x s. within_not_before from A X (least X x)) none;
 }
 
 -- ---- a visit
 
-module _ {K : Context} {A : Set} {from : ℕ} {F : Watched} {b : ℕ} {Ls : List Rule} (e : IsEntered K A from F b Ls) where
-  ends : {c : ℕ} {Ms : List Rule} → Ms ≡ open_where F.list.members K c (up_to from A) → HasLevel K A from F F c Ms
-  ends l = record { list = refl; level = l; filed = e.at.filed; kept = λ X h good. good }
+module _ {K : Context} {A : Set} {from : ℕ} {F : Watched} {b : ℕ} {Ls : List Rule} (e : IsVisit K A from F b Ls) where
+  ends : {c : ℕ} {Ms : List Rule} → Ms ≡ open_where F.list.members K c (up_to from A) → HasListed K A from F F c Ms
+  ends l = record { list = refl; listed = l; filed = e.at.filed; kept = λ X h good. good }
 
   -- where the bound fell
-  pub enter_lower : (c : ℕ) (Ms : List Rule) → Ms ≡ open_where F.list.members K c (before from A) → IsEntered K A from F c Ms
-  enter_lower c Ms l = record { at = e.at; level = l }
+  pub enter_lower : (c : ℕ) (Ms : List Rule) → Ms ≡ open_where F.list.members K c (before from A) → IsVisit K A from F c Ms
+  enter_lower c Ms l = record { at = e.at; listed = l }
 
-  pub enter_larger : b < size A → HasLevel K A from F F b Ls
-  enter_larger lt = ends (bound.open_larger F.list.members K A e.at.wide from e.at.inside e.at.least b Ls lt e.level)
+  pub enter_larger : b < size A → HasListed K A from F F b Ls
+  enter_larger lt = ends (bound.open_larger F.list.members K A e.at.wide from e.at.inside e.at.least b Ls lt e.listed)
 
   -- A was seen, and what comes behind it is left
   module _ {c : ℕ} {Ms : List Rule} (seen : Ms ≡ open_where F.list.members K c (up_to K.width A)) where
-    pub enter_left : IsLeft K A from F c Ms
-    enter_left = record { at = e.at; level = seen }
+    pub enter_left : IsBelow K A from F c Ms
+    enter_left = record { at = e.at; listed = seen }
 
-    pub enter_done : c ≤ size A → HasLevel K A from F F c Ms
+    pub enter_done : c ≤ size A → HasListed K A from F F c Ms
     enter_done le = ends (bound.open_branch F.list.members K A e.at.wide from e.at.inside e.at.least c Ms le seen)
 
   module _ {B : Set} (closure_is : B ≡ closure K A) where
     -- an intent
     pub enter_closed : same B A ≡ true → Ls ≡ open_where F.list.members K b (up_to K.width A)
     enter_closed one = bound.open_closed F.list.members K A e.at.wide from e.at.inside e.at.least b Ls
-        (same_from A (closure K A) (sym (same-true B A one) ∙ closure_is)) e.level
+        (same_from A (closure K A) (sym (same-true B A one) ∙ closure_is)) e.listed
 
     -- a set that is not closed
     pub enter_open : same B A ≡ false → size A ≤ b → (Ms : List Rule) → Ms ≡ Ls ++ rule A B ∷ []
@@ -86,13 +86,13 @@ module _ {K : Context} {A : Set} {from : ℕ} {F : Watched} {b : ℕ} {Ls : List
         let open_set : is_closed K A ≡ false = false_from_ne_true (is_closed K A)
         (λ t. false≢true (sym differs ∙ same_from B A (closure_is ∙ sym (same-true A (closure K A) t)))) in
         is ∙ ap (λ X. Ls ++ rule A X ∷ []) closure_is
-        ∙ bound.open_push F.list.members K A e.at.wide from e.at.inside e.at.least b Ls e.at.respecting open_set le e.level
+        ∙ bound.open_push F.list.members K A e.at.wide from e.at.inside e.at.least b Ls e.at.respecting open_set le e.listed
 
 -- ---- below a set
 
 -- the set is still inside once some of what is below it was visited
 pub inside_later : {K : Context} {A : Set} {from j : ℕ} {F G : Watched} {b : ℕ} {Ls : List Rule} → IsInside K A from F
-    → HasLevel K A j F G b Ls → IsInside K A from G
+    → HasListed K A j F G b Ls → IsInside K A from G
 inside_later {A = A} at g = record {
   width = ap (λ (M : RuleList). M.width) g.list ∙ at.width;
   wide = at.wide;
@@ -105,7 +105,7 @@ inside_later {A = A} at g = record {
 
 -- all behind attribute j - 1 were visited
 pub trying : {K : Context} {A : Set} {from j i : ℕ} {F G : Watched} {b : ℕ} {Ls : List Rule} → IsInside K A from F → j ≤ K.width
-    → HasLevel K A j F G b Ls → j ≡ suc i → from ≤ i
+    → HasListed K A j F G b Ls → j ≡ suc i → from ≤ i
     → IsTrying K A i G b Ls
 trying {K = K} {A = A} {from = from} {i = i} {G = G} {b = b} {Ls = Ls} at le g e on =
     let later = inside_later at g in
@@ -119,22 +119,22 @@ trying {K = K} {A = A} {from = from} {i = i} {G = G} {b = b} {Ls = Ls} at le g e
         filed = later.filed;
         good = later.good;
       };
-      level = subst (λ k. Ls ≡ open_where G.list.members K b (up_to k A)) e g.level;
+      listed = subst (λ k. Ls ≡ open_where G.list.members K b (up_to k A)) e g.listed;
       inside = omega (arith, le, e);
     }
 
-pub left_start : {K : Context} {A : Set} {from : ℕ} {F : Watched} {b : ℕ} {Ls : List Rule} → IsLeft K A from F b Ls
-    → HasLevel K A K.width F F b Ls
-left_start l = record { list = refl; level = l.level; filed = l.at.filed; kept = λ X h good. good }
+pub left_start : {K : Context} {A : Set} {from : ℕ} {F : Watched} {b : ℕ} {Ls : List Rule} → IsBelow K A from F b Ls
+    → HasListed K A K.width F F b Ls
+left_start l = record { list = refl; listed = l.listed; filed = l.at.filed; kept = λ X h good. good }
 
 -- what was visited, from now on
-pub level_now : {K : Context} {A : Set} {j : ℕ} {F G : Watched} {b : ℕ} {Ls : List Rule} → HasLevel K A j F G b Ls → HasLevel K A j G G b Ls
-level_now g = record { list = refl; level = g.level; filed = g.filed; kept = λ X h good. good }
+pub level_now : {K : Context} {A : Set} {j : ℕ} {F G : Watched} {b : ℕ} {Ls : List Rule} → HasListed K A j F G b Ls → HasListed K A j G G b Ls
+level_now g = record { list = refl; listed = g.listed; filed = g.filed; kept = λ X h good. good }
 
 -- one attribute after the other
-pub level_then : {K : Context} {A : Set} {j i : ℕ} {F G H : Watched} {b₀ b : ℕ} {Ls₀ Ls : List Rule} → HasLevel K A j F G b₀ Ls₀
-    → HasLevel K A i G H b Ls → HasLevel K A i F H b Ls
-level_then x y = record { list = y.list ∙ x.list; level = y.level; filed = y.filed; kept = λ X h good. y.kept X h (x.kept X h good) }
+pub level_then : {K : Context} {A : Set} {j i : ℕ} {F G H : Watched} {b₀ b : ℕ} {Ls₀ Ls : List Rule} → HasListed K A j F G b₀ Ls₀
+    → HasListed K A i G H b Ls → HasListed K A i F H b Ls
+level_then x y = record { list = y.list ∙ x.list; listed = y.listed; filed = y.filed; kept = λ X h good. y.kept X h (x.kept X h good) }
 
 module _ {K : Context} {A : Set} {i : ℕ} {G : Watched} {b : ℕ} {Ls : List Rule} (t : IsTrying K A i G b Ls) where
   abbrev inside : i < K.width
@@ -147,10 +147,10 @@ module _ {K : Context} {A : Set} {i : ℕ} {G : Watched} {b : ℕ} {Ls : List Ru
   next = omega arith
 
   -- an attribute that A has
-  pub left_member : get_or A i false ≡ true → HasLevel K A i G G b Ls
+  pub left_member : get_or A i false ≡ true → HasListed K A i G G b Ls
   left_member has = record {
     list = refl;
-    level = bound.member_open G.list.members K i b A Ls has t.level;
+    listed = bound.member_open G.list.members K i b A Ls has t.listed;
     filed = t.at.filed;
     kept = λ X h good. good;
   }
@@ -175,12 +175,12 @@ module _ {K : Context} {A : Set} {i : ℕ} {G : Watched} {b : ℕ} {Ls : List Ru
       good_moved Y h good = subst (λ (M : RuleList). IsGood M.members H.buckets Y) (sym m.list)
           (kept_good G.list.members G.buckets H.buckets Y (m.kept Y h) good)
 
-      pub left_none : Differs G.list.members i A X → HasLevel K A i G H b Ls
+      pub left_none : Differs G.list.members i A X → HasListed K A i G H b Ls
       left_none differs = record {
         list = m.list;
-        level = subst (λ (M : RuleList). Ls ≡ open_where M.members K b (up_to i A)) (sym m.list)
+        listed = subst (λ (M : RuleList). Ls ≡ open_where M.members K b (up_to i A)) (sym m.list)
             (bound.none_open G.list.members K A i i on t.at.least lacks b Ls
-            (λ T o h. differs T (subst (λ Y. within Y T ≡ true) (sym x) h) o.respecting) t.level);
+            (λ T o h. differs T (subst (λ Y. within Y T ≡ true) (sym x) h) o.respecting) t.listed);
         filed = m.filed;
         kept = good_moved;
       }
@@ -201,8 +201,8 @@ module _ {K : Context} {A : Set} {i : ℕ} {G : Watched} {b : ℕ} {Ls : List Ru
         up_c : within A C ≡ true
         up_c = within_trans A (set A i true) C (within_set A i) left_above
 
-        pub left_entered : IsEntered K C (i + 1) H b Ls
-        left_entered = subst (λ k. IsEntered K C k H b Ls) next (record {
+        pub left_entered : IsVisit K C (i + 1) H b Ls
+        left_entered = subst (λ k. IsVisit K C k H b Ls) next (record {
           at = record {
             width = ap (λ (M : RuleList). M.width) m.list ∙ t.at.width;
             wide = left_wide;
@@ -213,18 +213,18 @@ module _ {K : Context} {A : Set} {i : ℕ} {G : Watched} {b : ℕ} {Ls : List Ru
             filed = m.filed;
             good = subst (λ (M : RuleList). IsGood M.members H.buckets C) (sym m.list) c.good;
           };
-          level = subst (λ (M : RuleList). Ls ≡ open_where M.members K b (before (suc i) C)) (sym m.list)
-              (bound.child_open G.list.members K A i i on t.at.least lacks C has_c c.agree b Ls t.level);
+          listed = subst (λ (M : RuleList). Ls ≡ open_where M.members K b (before (suc i) C)) (sym m.list)
+              (bound.child_open G.list.members K A i i on t.at.least lacks C has_c c.agree b Ls t.listed);
         })
 
-        pub left_done : {I : Watched} {d : ℕ} {Ms : List Rule} → HasLevel K C (i + 1) H I d Ms → HasLevel K A i G I d Ms
+        pub left_done : {I : Watched} {d : ℕ} {Ms : List Rule} → HasListed K C (i + 1) H I d Ms → HasListed K A i G I d Ms
         left_done {I = I} {d = d} {Ms = Ms} done =
             let same_list : I.list ≡ G.list = done.list ∙ m.list in
             record {
               list = same_list;
-              level = bound.child_done I.list.members K A i i on
+              listed = bound.child_done I.list.members K A i i on
                   (subst (λ (M : RuleList). IsLeastUnder M.members K.width A i) (sym same_list) t.at.least) lacks C has_c c.agree d Ms
-                  (subst (λ k. Ms ≡ open_where I.list.members K d (up_to k C)) (sym next) done.level);
+                  (subst (λ k. Ms ≡ open_where I.list.members K d (up_to k C)) (sym next) done.listed);
               filed = done.filed;
               kept = λ Y h good. done.kept Y (within_trans Y A C h up_c) (good_moved Y h good);
             }
@@ -313,13 +313,13 @@ among_child J L K A from i whole sets part items C among same_list onward lacks 
 -- a branch that is passed by
 pub left_passed : (K : Context) (A : Set) (i : ℕ) (G : Watched) (b : ℕ) (Ls : List Rule) (whole : Bool) (sets : List Set)
     → IsTrying K A i G b Ls → AreAmong G.list.members K A i whole sets
-    → get_or A i false ≡ false → (whole && not (list_any (λ Y. stands_at i (first_missing 0 Y A)) sets)) ≡ true → HasLevel K A i G G b Ls
+    → get_or A i false ≡ false → (whole && not (list_any (λ Y. stands_at i (first_missing 0 Y A)) sets)) ≡ true → HasListed K A i G G b Ls
 left_passed K A i G b Ls whole sets t among lacks none = record {
   list = refl;
-  level = bound.none_open G.list.members K A i i (omega arith) t.at.least lacks b Ls
+  listed = bound.none_open G.list.members K A i i (omega arith) t.at.least lacks b Ls
       (λ T o h. none_among G.list.members K A i i whole sets among (omega arith) lacks none T o
       (within_at_place (set A i true) T h i (get_or-set_same A i true false
-      (let l = t.inside in let w = t.at.wide in omega (arith, l, w))))) t.level;
+      (let l = t.inside in let w = t.at.wide in omega (arith, l, w))))) t.listed;
   filed = t.at.filed;
   kept = λ X h good. good;
 }

@@ -4,11 +4,11 @@ use Rattle.std.proofs.lemmas.List.{reverse-append}
 use Rattle.std.proofs.lemmas.List.Sums.{sum_by_push}
 use Rattle.fca_model.specs.Context.{Context}
 use Rattle.fca_model.specs.Implications.{Rule}
-use Rattle.fca_model.specs.Room.{room}
+use Rattle.fca_model.specs.Room.{steps_bound}
 use Rattle.fca_model.proofs.RoomLemmas.{room_below}
 use Rattle.lectic_basis.specs.Watches.{Watched}
-use Rattle.next_level.specs.LevelWalks.{HasLevel}
-use Rattle.next_level.specs.Steps.{IsStep, IsBelow, IsChild, IsBegun, AreLeft, room_left}
+use Rattle.next_level.specs.LevelWalks.{HasListed}
+use Rattle.next_level.specs.Steps.{IsStep, IsLowerChild, IsChild, IsBegun, AreLeft, steps_left}
 use Rattle.next_level.specs.declared.walk.Step.{Step}
 use Rattle.next_level.specs.declared.walk.Child.{Child}
 use Rattle.next_level.proofs.LevelWalkLemmas.{inside_later, left_start, level_now, level_then, among_from}
@@ -21,17 +21,17 @@ last_first : {W : ℕ} (steps : List (Step W)) (step : Step W) → reverse (step
 last_first steps step = reverse-append steps (step ∷ [])
 
 pub walk_first : {K : Context} {W : ℕ} {step : Step W} {F : Watched} {b : ℕ} {Ls : List Rule} → IsStep K step F F b Ls
-    → IsWalk K (HasLevel K step.set step.from F) (step ∷ []) F b Ls
+    → IsWalk K (HasListed K step.set step.from F) (step ∷ []) F b Ls
 walk_first {F = F} s = (F, s, λ G c Ms h. h)
 
 -- the step as if it were begun now
 step_now : {K : Context} {W : ℕ} {step : Step W} {first F : Watched} {b : ℕ} {Ls : List Rule} → IsStep K step first F b Ls
     → IsStep K step F F b Ls
 step_now {K = K} {step = step} {first = first} {F = F} s = record {
-  at = inside_later s.at s.level;
-  level = level_now s.level;
-  near = s.near;
-  among = among_from first.list F.list K step.set step.from step.from step.among.whole step.among.sets.items s.level.list
+  at = inside_later s.at s.listed;
+  listed = level_now s.listed;
+  extent = s.extent;
+  among = among_from first.list F.list K step.set step.from step.from step.among.whole step.among.sets.items s.listed.list
       (omega arith) s.among;
   order = s.order;
   inside = s.inside;
@@ -48,29 +48,29 @@ module _ (K : Context) (Wanted : Watched → ℕ → List Rule → Type 0) {W : 
 
   module _ (G : Watched) (c : ℕ) (Ms : List Rule) where
     -- no attribute is left to be tried
-    pub walk_none : HasLevel K step.set step.from F G c Ms → IsWalk K Wanted steps G c Ms
-    walk_none h = left.2 G c Ms (level_then left.1.level h)
+    pub walk_none : HasListed K step.set step.from F G c Ms → IsWalk K Wanted steps G c Ms
+    walk_none h = left.2 G c Ms (level_then left.1.listed h)
 
     -- a child was entered
-    module _ (child : Child W) (below : IsBelow step child) (entered : IsChild K step F G c Ms child) (new begun : Step W)
+    module _ (child : Child W) (below : IsLowerChild step child) (entered : IsChild K step F G c Ms child) (new begun : Step W)
         (on : new ≡ record step { end = child.attribute })
         (begins : IsBegun K G child begun) where
       begun_step : IsStep K begun G G c Ms
       begun_step = record {
         at = rw (begins.set, begins.from) entered.left.at;
-        level = rw (begins.set, begins.end) (left_start entered.left);
-        near = rw begins.set begins.near;
+        listed = rw (begins.set, begins.end) (left_start entered.left);
+        extent = rw begins.set begins.extent;
         among = rw (begins.set, begins.from) begins.among;
         order = omega (arith, begins.from, begins.end, entered.left.at.inside);
         inside = omega (arith, begins.end);
       }
 
-      further : (H : Watched) (d : ℕ) (Ns : List Rule) → HasLevel K begun.set begun.from G H d Ns
+      further : (H : Watched) (d : ℕ) (Ns : List Rule) → HasListed K begun.set begun.from G H d Ns
           → IsStep K (record step { end = child.attribute }) left.0 H d Ns
       further H d Ns h = record {
         at = left.1.at;
-        level = level_then left.1.level (entered.done H d Ns (rw (begins.set, begins.from) at h));
-        near = left.1.near;
+        listed = level_then left.1.listed (entered.done H d Ns (rw (begins.set, begins.from) at h));
+        extent = left.1.extent;
         among = left.1.among;
         order = below.order;
         inside = omega (arith, below.before_end, left.1.inside);
@@ -92,22 +92,22 @@ walk_done K Wanted F b Ls (step ∷ steps) none w = absurd (omega (arith, none))
 -- ---- room for steps
 
 module _ (n : ℕ) {W : ℕ} {olds : List (Step W)} (steps : List (Step W)) (step : Step W) (is : olds ≡ steps ++ step ∷ []) where
-  all_room : room_left n olds ≡ room_left n steps + room n step.from step.end
-  all_room = ap (λ (xs : List (Step W)). room_left n xs) is ∙ sum_by_push (λ (s : Step W). room n s.from s.end) steps step
+  all_room : steps_left n olds ≡ steps_left n steps + steps_bound n step.from step.end
+  all_room = ap (λ (xs : List (Step W)). steps_left n xs) is ∙ sum_by_push (λ (s : Step W). steps_bound n s.from s.end) steps step
 
-  pub room_done : room_left n steps < room_left n olds
+  pub room_done : steps_left n steps < steps_left n olds
   room_done = omega (arith, all_room)
 
   module _ {news lasts : List (Step W)} (new begun : Step W) {i : ℕ} (on : news ≡ steps ++ new ∷ []) (deeper : lasts ≡ news ++ begun ∷ [])
       (from : new.from ≡ step.from) (end : new.end ≡ i)
       (next : begun.from ≡ i + 1) (low : step.from ≤ i) (less : i < step.end) (inside : step.end ≤ n) where
-    new_room : room_left n news ≡ room_left n steps + room n step.from i
-    new_room = ap (λ (xs : List (Step W)). room_left n xs) on ∙ sum_by_push (λ (s : Step W). room n s.from s.end) steps new
-        ∙ ap₂ (λ f e. room_left n steps + room n f e) from end
+    new_room : steps_left n news ≡ steps_left n steps + steps_bound n step.from i
+    new_room = ap (λ (xs : List (Step W)). steps_left n xs) on ∙ sum_by_push (λ (s : Step W). steps_bound n s.from s.end) steps new
+        ∙ ap₂ (λ f e. steps_left n steps + steps_bound n f e) from end
 
-    last_room : room_left n lasts ≡ room_left n news + room n (i + 1) begun.end
-    last_room = ap (λ (xs : List (Step W)). room_left n xs) deeper ∙ sum_by_push (λ (s : Step W). room n s.from s.end) news begun
-        ∙ ap (λ f. room_left n news + room n f begun.end) next
+    last_room : steps_left n lasts ≡ steps_left n news + steps_bound n (i + 1) begun.end
+    last_room = ap (λ (xs : List (Step W)). steps_left n xs) deeper ∙ sum_by_push (λ (s : Step W). steps_bound n s.from s.end) news begun
+        ∙ ap (λ f. steps_left n news + steps_bound n f begun.end) next
 
-    pub room_deeper : room_left n lasts < room_left n olds
+    pub room_deeper : steps_left n lasts < steps_left n olds
     room_deeper = omega (arith, all_room, new_room, last_room, room_below n step.from i step.end begun.end low less inside)

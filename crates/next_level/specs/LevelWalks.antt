@@ -22,25 +22,25 @@ pub record IsInside (K : Context) (A : Set) (from : ℕ) (F : Watched) : Type 0 
   pub good : IsGood F.list.members F.buckets A
 
 -- A is to be visited, and then all that agree with it before attribute `from`
-pub record IsEntered (K : Context) (A : Set) (from : ℕ) (F : Watched) (b : ℕ) (Ls : List Rule) : Type 0 where
+pub record IsVisit (K : Context) (A : Set) (from : ℕ) (F : Watched) (b : ℕ) (Ls : List Rule) : Type 0 where
   pub at : IsInside K A from F
-  pub level : Ls ≡ open_where F.list.members K b (before from A)
+  pub listed : Ls ≡ open_where F.list.members K b (before from A)
 
 -- A was visited, and what agrees with it before attribute `from` and comes behind it is left
-pub record IsLeft (K : Context) (A : Set) (from : ℕ) (F : Watched) (b : ℕ) (Ls : List Rule) : Type 0 where
+pub record IsBelow (K : Context) (A : Set) (from : ℕ) (F : Watched) (b : ℕ) (Ls : List Rule) : Type 0 where
   pub at : IsInside K A from F
-  pub level : Ls ≡ open_where F.list.members K b (up_to K.width A)
+  pub listed : Ls ≡ open_where F.list.members K b (up_to K.width A)
 
 -- attribute i is to be tried below A, and all behind it were
 pub record IsTrying (K : Context) (A : Set) (i : ℕ) (F : Watched) (b : ℕ) (Ls : List Rule) : Type 0 where
   pub at : IsInside K A i F
-  pub level : Ls ≡ open_where F.list.members K b (up_to (suc i) A)
+  pub listed : Ls ≡ open_where F.list.members K b (up_to (suc i) A)
   pub inside : i < K.width
 
 -- all that agree with A before attribute i were visited, and each good set within A is good as it was
-pub record HasLevel (K : Context) (A : Set) (i : ℕ) (old new : Watched) (b : ℕ) (Ls : List Rule) : Type 0 where
+pub record HasListed (K : Context) (A : Set) (i : ℕ) (old new : Watched) (b : ℕ) (Ls : List Rule) : Type 0 where
   pub list : new.list ≡ old.list
-  pub level : Ls ≡ open_where new.list.members K b (up_to i A)
+  pub listed : Ls ≡ open_where new.list.members K b (up_to i A)
   pub filed : IsFiled new.list.width new.list.members new.buckets
   pub kept : (X : Set) → within X A ≡ true → IsGood old.list.members old.buckets X → IsGood new.list.members new.buckets X
 

@@ -60,17 +60,17 @@ fn rest_of<const W: usize>(
     alloc: Global,
     width: u32,
     members: &[Implication<Bits<W>>],
-    count: u32,
+    premise_size: u32,
     most: usize,
 ) -> Result<Ahead, Memory>
     requires words { W ≤ 1024 }
     requires narrow { width ≤ 1024 }
     requires even { HaveWidth width members.now }
     ensures rest { IfOk result (λ ahead. ahead.whole ≡ true
-        → ahead.sets ≡ record { width = width; rows = premises (filter (λ i. nat_lt count (size i.premise)) members.now) }) }
+        → ahead.sets ≡ record { width = width; rows = premises (filter (λ i. nat_lt premise_size (size i.premise)) members.now) }) }
     ensures wide { IfOk result (λ ahead. ahead.sets.width ≡ width) }
 {
-    let rest = of_larger_size(alloc, members, count)?;
+    let rest = of_larger_size(alloc, members, premise_size)?;
     if rest.len() > most {
         return Ahead::none(alloc, width);
     }

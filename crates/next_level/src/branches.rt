@@ -13,7 +13,7 @@ ghost use Rattle.next_level.specs.Openings.{CanOpen};
 use crate::ahead::Ahead;
 use crate::open_sets::OpenSets;
 use crate::shortlist::Shortlist;
-use crate::walk::{child_among, enter_all};
+use crate::walk::{child_among, visit_all};
 use attr_bits::{Attrs, Bits};
 use derivation::Rows;
 use extent_blocks::IndexedRows;
@@ -112,7 +112,7 @@ impl<const W: usize> LevelWalk<W> {
         let mut rules = self.rules_from(alloc, from)?;
         let mut seen = OpenSets::new(alloc, limits);
         let among = self.among.copy(alloc)?;
-        enter_all(
+        visit_all(
             alloc,
             &self.indexed,
             &mut rules,
@@ -179,7 +179,7 @@ impl<const W: usize> LevelWalk<W> {
             },
             0,
         )?;
-        enter_all(alloc, indexed, &mut rules, &mut seen, &reached, i + 1, part)?;
+        visit_all(alloc, indexed, &mut rules, &mut seen, &reached, i + 1, part)?;
         Ok(seen)
     }
 

@@ -35,7 +35,7 @@ impl<const W: usize> OpenSets<W> {
     }
 
     /// Counts one more visit. At the last one the bound falls.
-    pub(crate) fn visit(&mut self, alloc: Global) -> Result<(), Memory>
+    pub(crate) fn count_visit(&mut self, alloc: Global) -> Result<(), Memory>
         requires words { W ≤ 1024 }
         ensures listed { OnOk result ((J : List Rule) (K : Context) (p : Set → Bool)
             → self.old.members.items ≡ open_where J K self.old.bound p → self.new.members.items ≡ open_where J K self.new.bound p) }
@@ -127,10 +127,10 @@ fn up_to_size<const W: usize>(
 pub(crate) fn of_size<const W: usize>(
     alloc: Global,
     members: &[Implication<Bits<W>>],
-    count: u32,
+    premise_size: u32,
 ) -> Result<Vec<Implication<Bits<W>>>, Memory>
     requires words { W ≤ 1024 }
-    ensures { IfOk result (λ kept. kept.items ≡ filter (λ i. size i.premise == count) members.now) }
+    ensures { IfOk result (λ kept. kept.items ≡ filter (λ i. size i.premise == premise_size) members.now) }
 {
     Ok(
         members
@@ -138,8 +138,8 @@ pub(crate) fn of_size<const W: usize>(
             .copied()
             .filter(
                 |member: &Implication<Bits<W>>| -> bool
-                    ensures { result ≡ (size member.now.premise == count) }
-                { member.premise.size() == count },
+                    ensures { result ≡ (size member.now.premise == premise_size) }
+                { member.premise.size() == premise_size },
             )
             .collect(alloc)?,
     )
@@ -149,10 +149,10 @@ pub(crate) fn of_size<const W: usize>(
 pub(crate) fn of_larger_size<const W: usize>(
     alloc: Global,
     members: &[Implication<Bits<W>>],
-    count: u32,
+    premise_size: u32,
 ) -> Result<Vec<Implication<Bits<W>>>, Memory>
     requires words { W ≤ 1024 }
-    ensures { IfOk result (λ kept. kept.items ≡ filter (λ i. nat_lt count (size i.premise)) members.now) }
+    ensures { IfOk result (λ kept. kept.items ≡ filter (λ i. nat_lt premise_size (size i.premise)) members.now) }
 {
     Ok(
         members
@@ -160,8 +160,8 @@ pub(crate) fn of_larger_size<const W: usize>(
             .copied()
             .filter(
                 |member: &Implication<Bits<W>>| -> bool
-                    ensures { result ≡ nat_lt count (size member.now.premise) }
-                { member.premise.size() > count },
+                    ensures { result ≡ nat_lt premise_size (size member.now.premise) }
+                { member.premise.size() > premise_size },
             )
             .collect(alloc)?,
     )

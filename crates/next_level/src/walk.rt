@@ -9,8 +9,8 @@ ghost use Rattle.fca_model.specs.Implications.{Rule};
 ghost use Rattle.extent_blocks.specs.Blocks.{IsExtent};
 ghost use Rattle.lectic_basis.specs.Watches.{Watched};
 ghost use Rattle.next_level.specs.Among.{AreAmong};
-ghost use Rattle.next_level.specs.LevelWalks.{IsEntered, IsLeft, IsTrying, HasLevel, IsSteady};
-ghost use Rattle.next_level.specs.Steps.{IsBegun, IsBelow, IsChild, IsStep};
+ghost use Rattle.next_level.specs.LevelWalks.{IsVisit, IsBelow, IsTrying, HasListed, IsSteady};
+ghost use Rattle.next_level.specs.Steps.{IsBegun, IsLowerChild, IsChild, IsStep};
 
 use crate::open_sets::OpenSets;
 use crate::shortlist::Shortlist;
@@ -27,7 +27,7 @@ pub(crate) struct Step<const W: usize> {
     pub(crate) set: Bits<W>,
     pub(crate) from: u32,
     pub(crate) end: u32,
-    pub(crate) near: BlockExtent,
+    pub(crate) extent: BlockExtent,
     pub(crate) among: Shortlist<W>,
 }
 
@@ -39,7 +39,7 @@ pub(crate) struct Child<const W: usize> {
 }
 
 /// Visits a, and then all that agree with it before attribute `from`.
-pub(crate) fn enter_all<const W: usize>(
+pub(crate) fn visit_all<const W: usize>(
     alloc: Global,
     indexed: &IndexedRows<W>,
     rules: &mut WatchedList<W>,
@@ -48,21 +48,21 @@ pub(crate) fn enter_all<const W: usize>(
     from: u32,
     among: Shortlist<W>,
 ) -> Result<(), Memory>
-    requires entered { IsEntered indexed.now a.now from rules.old seen.old.bound seen.old.members.items }
+    requires visit { IsVisit indexed.now a.now from rules.old seen.old.bound seen.old.members.items }
     requires small { size a.now ≤ seen.old.bound }
     requires among { AreAmong rules.old.list.members indexed.now a.now from among.whole among.sets.items }
-    ensures level { OnOk result (HasLevel indexed.now a.now from rules.old rules.new seen.new.bound seen.new.members.items) }
+    ensures listed { OnOk result (HasListed indexed.now a.now from rules.old rules.new seen.new.bound seen.new.members.items) }
     ensures steady { OnOk result (IsSteady seen.old.bound seen.old.members.items seen.new.bound seen.new.members.items) }
 {
     let _width = rules.width();
     let closed = indexed.rows().closure(a);
-    if enter(alloc, indexed, rules, seen, a, &closed, from)? {
-        let near = BlockExtent::of(alloc, indexed, a)?;
+    if visit(alloc, indexed, rules, seen, a, &closed, from)? {
+        let extent = BlockExtent::of(alloc, indexed, a)?;
         let first = Step {
             set: *a,
             from,
             end: rules.width(),
-            near,
+            extent,
             among,
         };
         return visit_below(alloc, indexed, rules, seen, first);
@@ -80,7 +80,7 @@ fn visit_below<const W: usize>(
     first: Step<W>,
 ) -> Result<(), Memory>
     requires { IsStep indexed.now first rules.old rules.old seen.old.bound seen.old.members.items }
-    ensures level { OnOk result (HasLevel indexed.now first.entry.set first.entry.from rules.old rules.new seen.new.bound seen.new.members.items) }
+    ensures listed { OnOk result (HasListed indexed.now first.entry.set first.entry.from rules.old rules.new seen.new.bound seen.new.members.items) }
     ensures steady { OnOk result (IsSteady seen.old.bound seen.old.members.items seen.new.bound seen.new.members.items) }
 {
     let _width = rules.width();
@@ -108,9 +108,9 @@ fn next_child<const W: usize>(
 ) -> Result<Option<Child<W>>, Memory>
     requires { IsStep indexed.now step.now rules.old rules.old seen.old.bound seen.old.members.items }
     ensures child { IfOk result (λ child. MatchOption child
-        (HasLevel indexed.now step.now.set step.now.from rules.old rules.new seen.new.bound seen.new.members.items)
+        (HasListed indexed.now step.now.set step.now.from rules.old rules.new seen.new.bound seen.new.members.items)
         (IsChild indexed.now step.now rules.old rules.new seen.new.bound seen.new.members.items)) }
-    ensures below { IfOk result (λ child. IfSome child (IsBelow step.now)) }
+    ensures below { IfOk result (λ child. IfSome child (IsLowerChild step.now)) }
     ensures steady { OnOk result (IsSteady seen.old.bound seen.old.members.items seen.new.bound seen.new.members.items) }
 {
     let _width = rules.width();
@@ -132,20 +132,20 @@ fn step_below<const W: usize>(
 ) -> Result<Step<W>, Memory>
     requires wide { length step.now.set ≡ indexed.now.width }
     requires inside { child.now.attribute < indexed.now.width }
-    requires below { IsBelow step.now child.now }
-    requires near { IsExtent indexed.now step.now.set step.now.near }
+    requires below { IsLowerChild step.now child.now }
+    requires extent { IsExtent indexed.now step.now.set step.now.extent }
     requires among { AreAmong rules.now.list.members indexed.now step.now.set step.now.from step.now.among.whole step.now.among.sets.items }
     ensures { IfOk result (IsBegun indexed.now rules.now child.now) }
 {
     let _width = rules.width();
     let i = child.attribute;
     let among = child_among(alloc, indexed, rules, &step.set, i, &step.among, &child.set)?;
-    let near = near_below(alloc, indexed, &step.near, &step.set, i, &child.set)?;
+    let extent = extent_below(alloc, indexed, &step.extent, &step.set, i, &child.set)?;
     Ok(Step {
         set: child.set,
         from: i + 1,
         end: indexed.rows().width(),
-        near,
+        extent,
         among,
     })
 }
@@ -162,16 +162,16 @@ fn child_at<const W: usize>(
 ) -> Result<Option<Bits<W>>, Memory>
     requires trying { IsTrying indexed.now step.now.set i rules.old seen.old.bound seen.old.members.items }
     requires among { AreAmong rules.old.list.members indexed.now step.now.set i step.now.among.whole step.now.among.sets.items }
-    requires near { IsExtent indexed.now step.now.set step.now.near }
-    ensures left { IfOk result (λ child. IfSome child (λ b. IsLeft indexed.now b (i + 1) rules.new seen.new.bound seen.new.members.items)) }
+    requires extent { IsExtent indexed.now step.now.set step.now.extent }
+    ensures left { IfOk result (λ child. IfSome child (λ b. IsBelow indexed.now b (i + 1) rules.new seen.new.bound seen.new.members.items)) }
     ensures larger { IfOk result (λ child. IfSome child (λ b. within (slice_set step.now.set i true) b ≡ true)) }
     ensures agree { IfOk result (λ child. IfSome child (λ b. agree_before i step.now.set b ≡ true)) }
     ensures lacks { IfOk result (λ child. IfSome child (λ b. slice_index_or step.now.set i false ≡ false)) }
     ensures list { OnOk result (rules.new.list ≡ rules.old.list) }
     ensures done { IfOk result (λ child. MatchOption child
-        (HasLevel indexed.now step.now.set i rules.old rules.new seen.new.bound seen.new.members.items)
-        (λ b. (new : Watched) (size : ℕ) (members : List Rule) → HasLevel indexed.now b (i + 1) rules.new new size members
-        → HasLevel indexed.now step.now.set i rules.old new size members)) }
+        (HasListed indexed.now step.now.set i rules.old rules.new seen.new.bound seen.new.members.items)
+        (λ b. (new : Watched) (size : ℕ) (members : List Rule) → HasListed indexed.now b (i + 1) rules.new new size members
+        → HasListed indexed.now step.now.set i rules.old new size members)) }
     ensures steady { OnOk result (IsSteady seen.old.bound seen.old.members.items seen.new.bound seen.new.members.items) }
 {
     let _width = rules.width();
@@ -189,8 +189,8 @@ fn child_at<const W: usize>(
     if reached.size() > seen.bound {
         return Ok(None);
     }
-    let closed = closure_near(indexed, &step.near, a, i, &reached);
-    if enter(alloc, indexed, rules, seen, &reached, &closed, i + 1)? {
+    let closed = closure_by_extent(indexed, &step.extent, a, i, &reached);
+    if visit(alloc, indexed, rules, seen, &reached, &closed, i + 1)? {
         return Ok(Some(reached));
     }
     Ok(None)
@@ -220,7 +220,7 @@ pub(crate) fn child_among<const W: usize>(
 }
 
 /// Visits a alone, whose closure is given. Whether open sets within the bound may agree with it before attribute `from` and come behind it.
-fn enter<const W: usize>(
+fn visit<const W: usize>(
     alloc: Global,
     indexed: &IndexedRows<W>,
     rules: &WatchedList<W>,
@@ -229,15 +229,15 @@ fn enter<const W: usize>(
     closed: &Bits<W>,
     from: u32,
 ) -> Result<bool, Memory>
-    requires entered { IsEntered indexed.now a.now from rules.now seen.old.bound seen.old.members.items }
+    requires visit { IsVisit indexed.now a.now from rules.now seen.old.bound seen.old.members.items }
     requires small { size a.now ≤ seen.old.bound }
     requires closed { closed.now ≡ closure indexed.now a.now }
-    ensures left { IfOk result (λ left. left ≡ true → IsLeft indexed.now a.now from rules.now seen.new.bound seen.new.members.items) }
-    ensures done { IfOk result (λ left. left ≡ false → HasLevel indexed.now a.now from rules.now rules.now seen.new.bound seen.new.members.items) }
+    ensures left { IfOk result (λ left. left ≡ true → IsBelow indexed.now a.now from rules.now seen.new.bound seen.new.members.items) }
+    ensures done { IfOk result (λ left. left ≡ false → HasListed indexed.now a.now from rules.now rules.now seen.new.bound seen.new.members.items) }
     ensures steady { OnOk result (IsSteady seen.old.bound seen.old.members.items seen.new.bound seen.new.members.items) }
 {
     let _width = rules.width();
-    seen.visit(alloc)?;
+    seen.count_visit(alloc)?;
     let count = a.size();
     if count > seen.bound {
         return Ok(false);
@@ -254,48 +254,48 @@ fn enter<const W: usize>(
 }
 
 /// The closure of a set that contains a and attribute i, by the rows that contain a.
-fn closure_near<const W: usize>(
+fn closure_by_extent<const W: usize>(
     indexed: &IndexedRows<W>,
-    near: &BlockExtent,
+    extent: &BlockExtent,
     a: &Bits<W>,
     i: u32,
     larger: &Bits<W>,
 ) -> Bits<W>
     requires inside { i < indexed.now.width }
     requires wide { length a.now ≡ indexed.now.width }
-    requires near { IsExtent indexed.now a.now near.now }
+    requires extent { IsExtent indexed.now a.now extent.now }
     requires larger { within (slice_set a.now i true) larger.now ≡ true }
     requires larger_wide { length larger.now ≡ indexed.now.width }
     ensures { result ≡ closure indexed.now larger.now }
 {
     let _width = indexed.rows().width();
     let tried = a.with(i);
-    let shared = near.closure_among(indexed, i, &tried);
+    let shared = extent.closure_among(indexed, i, &tried);
     if larger.within(&shared) {
         return shared;
     }
     indexed.rows().closure(larger)
 }
 
-/// The rows that contain a set which contains a and attribute i. If the list holds in the rows, these are the rows near a that have i.
-fn near_below<const W: usize>(
+/// The rows that contain a set which contains a and attribute i. If the list holds in the rows, these are the rows of the extent of a that have i.
+fn extent_below<const W: usize>(
     alloc: Global,
     indexed: &IndexedRows<W>,
-    near: &BlockExtent,
+    extent: &BlockExtent,
     a: &Bits<W>,
     i: u32,
     larger: &Bits<W>,
 ) -> Result<BlockExtent, Memory>
     requires inside { i < indexed.now.width }
     requires wide { length a.now ≡ indexed.now.width }
-    requires near { IsExtent indexed.now a.now near.now }
+    requires extent { IsExtent indexed.now a.now extent.now }
     requires larger { within (slice_set a.now i true) larger.now ≡ true }
     ensures { IfOk result (λ below. IsExtent indexed.now larger.now below) }
 {
     let _width = indexed.rows().width();
-    if is_shared(indexed, near, a, i, larger) {
+    if is_shared(indexed, extent, a, i, larger) {
         let mut below = BlockExtent::new(alloc);
-        below.set_having(near, indexed, i)?;
+        below.set_having(extent, indexed, i)?;
         return Ok(below);
     }
     BlockExtent::of(alloc, indexed, larger)
@@ -304,14 +304,14 @@ fn near_below<const W: usize>(
 /// Whether all rows that contain a and have attribute i contain the larger set. No row is looked at if it has nothing else.
 fn is_shared<const W: usize>(
     indexed: &IndexedRows<W>,
-    near: &BlockExtent,
+    extent: &BlockExtent,
     a: &Bits<W>,
     i: u32,
     larger: &Bits<W>,
 ) -> bool
     requires inside { i < indexed.now.width }
     requires wide { length a.now ≡ indexed.now.width }
-    requires near { IsExtent indexed.now a.now near.now }
+    requires extent { IsExtent indexed.now a.now extent.now }
     ensures { result ≡ true → within larger.now (closure indexed.now (slice_set a.now i true)) ≡ true }
 {
     let _width = indexed.rows().width();
@@ -319,6 +319,6 @@ fn is_shared<const W: usize>(
     if larger.within(&tried) {
         return true;
     }
-    let shared = near.closure_among(indexed, i, &tried);
+    let shared = extent.closure_among(indexed, i, &tried);
     larger.within(&shared)
 }

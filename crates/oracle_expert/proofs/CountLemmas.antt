@@ -47,7 +47,7 @@ use Rattle.oracle_expert.specs.Oracles.{drop_given, drop_at}
 use Rattle.oracle_expert.specs.Runs.{OracleMoment, SeatRun, IsOracleFront, conflicts_of, row_due, OracleRunsFrom, StopsAtDone, event_due}
 use Rattle.oracle_expert.specs.Runs.{moment_after, moment_at, is_done}
 use Rattle.oracle_expert.proofs.AnswerLemmas.{counterexample_is}
-use Rattle.oracle_expert.specs.Counts.{answers_recorded_in, dropped}
+use Rattle.oracle_expert.specs.Counts.{answers_recorded_in, dropped_count}
 use Rattle.oracle_expert.proofs.TurnLemmas.{is_stale, moment, draws, confirms, gives}
 use Rattle.oracle_expert.proofs.RunLemmas.{oracle_runs}
 
@@ -138,7 +138,7 @@ open_fresh s q among =
 -- ---- rows that are dropped
 
 dropped-set : (cs : Conflicts) (i k : ℕ) (d : Option ℕ) → i < length cs → get_or cs i d ≡ None
-    → dropped (slice_set cs i (Some k)) ≡ suc (dropped cs)
+    → dropped_count (slice_set cs i (Some k)) ≡ suc (dropped_count cs)
 dropped-set [] i k d lt e = absurd (omega arith)
 dropped-set (None ∷ cs) zero k d lt e = refl
 dropped-set (Some j ∷ cs) zero k d lt e = absurd (cc)
@@ -146,12 +146,12 @@ dropped-set (None ∷ cs) (suc i) k d lt e = dropped-set cs i k d (omega arith) 
 dropped-set (Some j ∷ cs) (suc i) k d lt e = ap suc (dropped-set cs i k d (omega arith) e)
 
 one_dropped : (D : NamedContext) (cs : Conflicts) (q : Rule) (i k : ℕ) → counterexample D cs q ≡ Some i
-    → dropped (drop_given cs (counterexample D cs q) k) ≡ suc (dropped cs)
+    → dropped_count (drop_given cs (counterexample D cs q) k) ≡ suc (dropped_count cs)
 one_dropped D cs q i k e =
     let c = counterexample_is D cs q i e in
     let free : get_or cs i None ≡ None = is_None (get_or cs i None) (c.undropped None) in
     let there : slice_get cs i ≡ Some None = slice_get-get_or cs i None c.in_conflicts ∙ ap (λ x. Some x) free in
-    ap (λ m. dropped (drop_given cs m k)) e ∙ ap (λ m. dropped (drop_at cs i k m)) there ∙ dropped-set cs i k None c.in_conflicts free
+    ap (λ m. dropped_count (drop_given cs m k)) e ∙ ap (λ m. dropped_count (drop_at cs i k m)) there ∙ dropped-set cs i k None c.in_conflicts free
   where
     is_None : (m : Option ℕ) → is_none m ≡ true → m ≡ None
     is_None None h = refl
@@ -168,8 +168,8 @@ to_come true = 0
 to_come false = 2
 
 abbrev Bounded : ℕ → ℕ → State → Conflicts → Option Rule → Type 0
-Bounded c n s cs None = n + 2 * c ≤ 2 * rows_and_rules s + dropped cs
-Bounded c n s cs (Some q) = n + 1 + 2 * c ≤ 2 * rows_and_rules s + dropped cs + to_come (is_stale s q)
+Bounded c n s cs None = n + 2 * c ≤ 2 * rows_and_rules s + dropped_count cs
+Bounded c n s cs (Some q) = n + 1 + 2 * c ≤ 2 * rows_and_rules s + dropped_count cs + to_come (is_stale s q)
 
 abbrev pub Holding : ℕ → State → Option Rule → Type 0
 Holding e s None = Unit {0}
@@ -206,7 +206,7 @@ others_keep c n s cs (Some q) x b =
 
 module _ (D : NamedContext) (e : ℕ) (i : is_expert e ≡ true) (c : ℕ) where
   abbrev Step : ℕ → State → OracleMoment → SetReply → Type 0
-  Step n t m reply = ((is_done reply ≡ true) × (n + 1 + 2 * c ≤ 2 * rows_and_rules t + dropped m.conflicts + 1))
+  Step n t m reply = ((is_done reply ≡ true) × (n + 1 + 2 * c ≤ 2 * rows_and_rules t + dropped_count m.conflicts + 1))
       ⊎ (Bounded c (n + 1) t m.conflicts m.due × Holding e t m.due)
 
   abbrev Turned : ℕ → State → Conflicts → Option Rule → SetEvent → Type 0
@@ -256,7 +256,7 @@ module _ (D : NamedContext) (e : ℕ) (i : is_expert e ≡ true) (c : ℕ) where
   rest s x es = own (journal_of (next s x) es) e
 
   abbrev Bound : List SetEntry → ℕ → Option Rule → Conflicts → State → Type 0
-  Bound entries n due cs t = length entries + n + 2 * c ≤ 2 * rows_and_rules t + dropped (moment_at D (moment due cs) entries).conflicts + 1
+  Bound entries n due cs t = length entries + n + 2 * c ≤ 2 * rows_and_rules t + dropped_count (moment_at D (moment due cs) entries).conflicts + 1
 
   -- what is known of the rest of a run
   abbrev On : State → SetEvent → List SetEvent → Type 0
@@ -305,7 +305,7 @@ module _ (D : NamedContext) (e : ℕ) (i : is_expert e ≡ true) (c : ℕ) where
 
 -- ---- from the opening
 
-none_dropped : (rows : List Set) → dropped (map (λ _. None) rows) ≡ 0
+none_dropped : (rows : List Set) → dropped_count (map (λ _. None) rows) ≡ 0
 none_dropped [] = refl
 none_dropped (row ∷ rows) = none_dropped rows
 
@@ -325,7 +325,7 @@ length-conflicts D m [] = refl
 length-conflicts D m (entry ∷ entries) = length-conflicts D (moment_after D m entry.reply) entries
     ∙ length-told m.conflicts (row_due D m) entry.reply
 
-dropped_within : (cs : Conflicts) → dropped cs ≤ length cs
+dropped_within : (cs : Conflicts) → dropped_count cs ≤ length cs
 dropped_within [] = omega arith
 dropped_within (None ∷ cs) =
     let more = dropped_within cs in
@@ -334,7 +334,7 @@ dropped_within (Some k ∷ cs) =
     let more = dropped_within cs in
     omega arith
 
-pub few_dropped : (D : NamedContext) (entries : List SetEntry) → dropped (conflicts_of D entries) ≤ length D.context.rows
+pub few_dropped : (D : NamedContext) (entries : List SetEntry) → dropped_count (conflicts_of D entries) ≤ length D.context.rows
 few_dropped D entries =
     let all : length (conflicts_of D entries) ≡ length D.context.rows = length-conflicts D (moment None (no_conflict D)) entries
     ∙ length-map D.context.rows (λ (row : Set). None) in
@@ -445,7 +445,7 @@ module _ (D : NamedContext) (e : ℕ) (i : is_expert e ≡ true) (cs : Conflicts
     (runs : OracleRunsFrom D e (moment None cs) entries) where
   -- the bound of what was recorded from the state on, where these rows were dropped before
   abbrev Later : State → List SetEvent → Type 0
-  Later s es = length entries + dropped cs + 2 * rows_and_rules s ≤ 2 * rows_and_rules (state_after s es) + dropped
+  Later s es = length entries + dropped_count cs + 2 * rows_and_rules s ≤ 2 * rows_and_rules (state_after s es) + dropped_count
       (moment_at D (moment None cs) entries).conflicts + 1
 
   later_bound : (es : List SetEvent) (s : State) (before : List SetEntry) → IsValid s → s.settings.holders ≡ MAX_EXPERTS
@@ -453,10 +453,10 @@ module _ (D : NamedContext) (e : ℕ) (i : is_expert e ≡ true) (cs : Conflicts
       → own (journal_of s es) e ≡ before ++ entries → Later s es
   unfolding state_after journal_of
   later_bound es s [] v holders is own_is =
-      let bound : Bound D e i (rows_and_rules s) entries (dropped cs) None cs (state_after s es) =
+      let bound : Bound D e i (rows_and_rules s) entries (dropped_count cs) None cs (state_after s es) =
       subst (λ xs. OracleRunsFrom D e (moment None cs) xs
-      → Bound D e i (rows_and_rules s) xs (dropped cs) None cs (state_after s es)) own_is
-      (run_bound D e i (rows_and_rules s) es (dropped cs) s cs None v holders is (omega arith) tt) runs in
+      → Bound D e i (rows_and_rules s) xs (dropped_count cs) None cs (state_after s es)) own_is
+      (run_bound D e i (rows_and_rules s) es (dropped_count cs) s cs None v holders is (omega arith) tt) runs in
       omega arith
   later_bound [] s (b ∷ before) v holders is own_is = cc
   later_bound (x ∷ es) s (b ∷ before) v holders is own_is =
@@ -487,7 +487,7 @@ module _ (K : Context) (names : List RowName) (settings : Settings) (H : List Se
   -- of an oracle that has dropped these rows before
   any_turns : (D : NamedContext) (e : ℕ) → is_expert e ≡ true → (cs : Conflicts) (before entries : List SetEntry)
       → own H e ≡ before ++ entries → OracleRunsFrom D e (moment None cs) entries
-      → length entries + dropped cs ≤ 2 * answers_recorded_in H + dropped (moment_at D (moment None cs) entries).conflicts + 1
+      → length entries + dropped_count cs ≤ 2 * answers_recorded_in H + dropped_count (moment_at D (moment None cs) entries).conflicts + 1
   any_turns D e i cs before entries own_is runs =
       let events = legal_events first H legal in
       let bound = later_bound D e i cs entries runs (events_of H) first before valid most events.0
@@ -497,20 +497,20 @@ module _ (K : Context) (names : List RowName) (settings : Settings) (H : List Se
 
   pub oracle_turns : (D : NamedContext) (e : ℕ) → is_expert e ≡ true → (before entries : List SetEntry) → own H e ≡ before ++ entries
       → IsOracleFront D e entries
-      → length entries ≤ 2 * answers_recorded_in H + dropped (conflicts_of D entries) + 1
+      → length entries ≤ 2 * answers_recorded_in H + dropped_count (conflicts_of D entries) + 1
   oracle_turns D e i before entries own_is front =
-      let none : dropped (no_conflict D) ≡ 0 = none_dropped D.context.rows in
+      let none : dropped_count (no_conflict D) ≡ 0 = none_dropped D.context.rows in
       let turns = any_turns D e i (no_conflict D) before entries own_is front in
       omega arith
 
   pub call_turns : (e : ℕ) → is_expert e ≡ true → (old new : Recall) (before entries : List SetEntry) → own H e ≡ before ++ entries
       → SeatRun Answers Learns e old entries new
-      → length entries ≤ 2 * answers_recorded_in H + (dropped new.conflicts - dropped old.conflicts) + 1
+      → length entries ≤ 2 * answers_recorded_in H + (dropped_count new.conflicts - dropped_count old.conflicts) + 1
   call_turns e i old new before entries own_is run =
       let its = oracle_runs old.table e None old.conflicts old entries new refl refl run in
       let turns = any_turns old.table e i old.conflicts before entries own_is its.run in
-      let after : dropped new.conflicts ≡ dropped (moment_at old.table (moment None old.conflicts) entries).conflicts =
-      ap dropped its.conflicts in
+      let after : dropped_count new.conflicts ≡ dropped_count (moment_at old.table (moment None old.conflicts) entries).conflicts =
+      ap dropped_count its.conflicts in
       omega arith
 
   pub recorded_few : answers_recorded_in H ≤ 2 ^ K.width

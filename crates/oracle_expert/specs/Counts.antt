@@ -9,7 +9,7 @@ abbrev pub answers_recorded_in : List SetEntry → ℕ
 answers_recorded_in H = length (filter (λ entry. is_recorded entry.reply) H)
 
 -- how many rows were dropped
-abbrev pub dropped : Conflicts → ℕ
-dropped [] = 0
-dropped (None ∷ conflicts) = dropped conflicts
-dropped (Some k ∷ conflicts) = suc (dropped conflicts)
+abbrev pub dropped_count : Conflicts → ℕ
+dropped_count [] = 0
+dropped_count (None ∷ conflicts) = dropped_count conflicts
+dropped_count (Some k ∷ conflicts) = suc (dropped_count conflicts)

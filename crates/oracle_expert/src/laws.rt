@@ -12,7 +12,7 @@ ghost use Rattle.fca_model.specs.Invariant.{SameMembers, rows_respect};
 ghost use Rattle.fca_model.specs.Tables.{NamedContext};
 ghost use Rattle.fca_model.specs.Exploration.{RowName, SetEntry, Settings, opening, open_in, state_after, events_of, is_expert, own};
 ghost use Rattle.fca_model.specs.Exploration.{IsLegal};
-ghost use Rattle.oracle_expert.specs.Counts.{answers_recorded_in, dropped};
+ghost use Rattle.oracle_expert.specs.Counts.{answers_recorded_in, dropped_count};
 ghost use Rattle.oracle_expert.specs.Oracles.{Recall, Answers, Learns, no_conflict};
 ghost use Rattle.oracle_expert.specs.Intents.{HasIntentsOf, are_intents};
 ghost use Rattle.oracle_expert.specs.Runs.{SeatRun, IsOracleFront, IsOracleRun, ends_done, conflicts_of};
@@ -44,9 +44,9 @@ pub fn turns_of_an_oracle()
         → rows_respect settings.known K ≡ true → settings.holders ≡ MAX_EXPERTS → IsLegal (opening K names settings) H
         → (D : NamedContext) (e : ℕ) → is_expert e ≡ true → (before entries : List SetEntry)
         → own H e ≡ before ++ entries → IsOracleFront D e entries
-        → length entries ≤ 2 * answers_recorded_in H + dropped (conflicts_of D entries) + 1 }
+        → length entries ≤ 2 * answers_recorded_in H + dropped_count (conflicts_of D entries) + 1 }
     ensures drops { (D : NamedContext) (entries : List SetEntry)
-        → dropped (conflicts_of D entries) ≤ length D.context.rows }
+        → dropped_count (conflicts_of D entries) ≤ length D.context.rows }
     ensures few { (K : Context) (names : List RowName) (settings : Settings) (H : List SetEntry)
         → rows_respect settings.known K ≡ true → settings.holders ≡ MAX_EXPERTS → IsLegal (opening K names settings) H
         → (D : NamedContext) (e : ℕ) → is_expert e ≡ true → (before entries : List SetEntry)
@@ -56,7 +56,7 @@ pub fn turns_of_an_oracle()
         → rows_respect settings.known K ≡ true → settings.holders ≡ MAX_EXPERTS → IsLegal (opening K names settings) H
         → (e : ℕ) → is_expert e ≡ true → (old new : Recall) (before entries : List SetEntry)
         → own H e ≡ before ++ entries → SeatRun Answers Learns e old entries new
-        → length entries ≤ 2 * answers_recorded_in H + (dropped new.conflicts - dropped old.conflicts) + 1 }
+        → length entries ≤ 2 * answers_recorded_in H + (dropped_count new.conflicts - dropped_count old.conflicts) + 1 }
 {}
 
 /// Of a history `H` over a context whose rows respect what is known, where all experts may hold one question:
@@ -76,7 +76,7 @@ pub fn draws_of_an_oracle()
 /// all experts may hold one question. Then no row is ever dropped. Once no question is open, the basis of the recorded rows beside
 /// what is known is that of `C`, and its members are the accepted implications.
 pub fn same_table_same_basis()
-    ensures dropped { (C K : Context) (names : List RowName) (settings : Settings) (H : List SetEntry) (tables : ℕ → NamedContext)
+    ensures no_row_dropped { (C K : Context) (names : List RowName) (settings : Settings) (H : List SetEntry) (tables : ℕ → NamedContext)
         → rows_respect settings.known K ≡ true → settings.holders ≡ MAX_EXPERTS → list_all (holds C) settings.known ≡ true
         → IsLegal (opening K names settings) H → C.width ≡ K.width
         → list_all (λ row. list_any (same row) C.rows) K.rows ≡ true
@@ -103,7 +103,7 @@ pub fn same_table_same_basis()
 /// too, and all experts may hold one question, no row is ever dropped. Once no question is open, the basis of the recorded rows beside what is known is
 /// that of `C`, and its members are what was accepted.
 pub fn same_intents_same_basis()
-    ensures dropped { (C K : Context) (names : List RowName) (settings : Settings) (H : List SetEntry) (tables : ℕ → NamedContext)
+    ensures no_row_dropped { (C K : Context) (names : List RowName) (settings : Settings) (H : List SetEntry) (tables : ℕ → NamedContext)
         → rows_respect settings.known K ≡ true → settings.holders ≡ MAX_EXPERTS → list_all (holds C) settings.known ≡ true
         → IsLegal (opening K names settings) H → C.width ≡ K.width
         → are_intents C K.rows ≡ true → ((e : ℕ) → HasIntentsOf C (tables e).context)

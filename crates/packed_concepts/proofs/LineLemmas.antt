@@ -4,10 +4,10 @@ use Rattle.std.specs.Prelude.{codes}
 use Rattle.fca_model.specs.Sets.{Set}
 use Rattle.fca_model.specs.Tables.{Text}
 use Rattle.expert_wire.specs.Texts.{ordinal, comma_list, names_of}
-use Rattle.packed_concepts.specs.Lines.{Named, names_at, line_of, lines_from}
+use Rattle.packed_concepts.specs.Lines.{TableNames, names_at, line_of, lines_from}
 
 -- a line, as its parts were put down
-pub line-parts : (t : Named) (old number : Text) (A : Set) (E : List ℕ)
+pub line-parts : (t : TableNames) (old number : Text) (A : Set) (E : List ℕ)
     → (((((old ++ number) ++ codes " {") ++ comma_list (names_of t.attributes A)) ++ codes "} | {") ++ comma_list (names_at t.objects E)) ++ codes "}\n" ≡ old ++ line_of t number A E
 line-parts t old number A E = regroup old number (codes " {") (comma_list (names_of t.attributes A)) (codes "} | {") (comma_list (names_at t.objects E)) (codes "}\n")
   where
@@ -15,7 +15,7 @@ line-parts t old number A E = regroup old number (codes " {") (comma_list (names
     regroup o n s i m e l = simp append_assoc
 
 -- some lines, and those behind them
-pub lines_from-append : (t : Named) (n : ℕ) (cs ds : List (Set × List ℕ))
+pub lines_from-append : (t : TableNames) (n : ℕ) (cs ds : List (Set × List ℕ))
     → lines_from t n (cs ++ ds) ≡ lines_from t n cs ++ lines_from t (n + length cs) ds
 lines_from-append t n [] ds = ap (λ k. lines_from t k ds) (omega arith)
 lines_from-append t n (c ∷ cs) ds =

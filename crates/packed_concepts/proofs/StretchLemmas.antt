@@ -6,9 +6,9 @@ use Rattle.std.proofs.lemmas.List.Concat.{flat_map-append}
 use Rattle.std.proofs.lemmas.List.Elements.{All-nil, All-cons, All-take, All-drop, All-append}
 use Rattle.std.specs.List.{flat_map}
 use denote.Ref.{Bor}
-use Rattle.packed_concepts.specs.Lines.{Named, lines_from}
+use Rattle.packed_concepts.specs.Lines.{TableNames, lines_from}
 use Rattle.packed_concepts.specs.Packing.{IsNamed}
-use Rattle.packed_concepts.specs.Stretches.{Placed, lines_on, job_lines, all_lines, concepts_of, IsReady, Follow}
+use Rattle.packed_concepts.specs.Stretches.{StretchConcepts, lines_on, job_lines, all_lines, concepts_of, IsReady, Follow}
 use Rattle.packed_concepts.proofs.LineLemmas.{lines_from-append}
 
 -- what holds of all that lists have holds of those of each
@@ -21,7 +21,7 @@ All-parts P f (y ∷ ys) h =
     (All-parts P f ys (subst (All P) (drop_at (f y) rest (length (f y)) refl) (All-drop P (length (f y)) (f y ++ rest) h)))
 
 -- the jobs have the lines of the stretches that were grouped
-pub lines-jobs : (t : Named) (jobs : List (Bor (List Placed))) → all_lines t jobs ≡ job_lines t (flat_map (λ job. job.now) jobs)
+pub lines-jobs : (t : TableNames) (jobs : List (Bor (List StretchConcepts))) → all_lines t jobs ≡ job_lines t (flat_map (λ job. job.now) jobs)
 lines-jobs t [] = refl
 lines-jobs t (job ∷ jobs) = ap (λ z. job_lines t job.now ++ z) (lines-jobs t jobs)
     ∙ sym (flat_map-append (lines_on t) job.now (flat_map (λ j. j.now) jobs))
@@ -30,7 +30,7 @@ pub Follow-nothing : (n : ℕ) → Follow n []
 Follow-nothing n = record { lines = λ t. refl; few = All-nil (λ s. s.first + length s.concepts ≤ n + 0) }
 
 -- those that follow
-pub Follow-append : (n m : ℕ) (ss ts : List Placed) → m ≡ n + length (concepts_of ss) → Follow n ss → Follow m ts → Follow n (ss ++ ts)
+pub Follow-append : (n m : ℕ) (ss ts : List StretchConcepts) → m ≡ n + length (concepts_of ss) → Follow n ss → Follow m ts → Follow n (ss ++ ts)
 Follow-append n m ss ts at x y =
     let both : concepts_of (ss ++ ts) ≡ concepts_of ss ++ concepts_of ts = flat_map-append (λ s. s.concepts) ss ts in
     let count : length (concepts_of (ss ++ ts)) ≡ length (concepts_of ss) + length (concepts_of ts) = ap length both
@@ -45,7 +45,7 @@ Follow-append n m ss ts at x y =
     }
 
 -- one alone
-pub Follow-one : (n : ℕ) (s : Placed) → n ≡ s.first → Follow n (s ∷ [])
+pub Follow-one : (n : ℕ) (s : StretchConcepts) → n ≡ s.first → Follow n (s ∷ [])
 Follow-one n s at =
     let one : concepts_of (s ∷ []) ≡ s.concepts = append-nil s.concepts in
     let count : length (concepts_of (s ∷ [])) ≡ length s.concepts = ap length one in
@@ -56,21 +56,21 @@ Follow-one n s at =
     }
 
 -- those that follow are ready if all names are there
-pub ready-all : (t : Named) (ss : List Placed) → Follow 0 ss → All (IsNamed t) (concepts_of ss) → length (concepts_of ss) < 2 ^ 64 → All (IsReady t) ss
+pub ready-all : (t : TableNames) (ss : List StretchConcepts) → Follow 0 ss → All (IsNamed t) (concepts_of ss) → length (concepts_of ss) < 2 ^ 64 → All (IsReady t) ss
 ready-all t ss x named small = λ k d l. record {
   named = All-parts (IsNamed t) (λ s. s.concepts) ss named k d l;
   few = let few = x.few k d l in omega (arith, few, small);
 }
 
 -- the jobs of a round, and those behind them
-pub next-round : (t : Named) (jobs : List (Bor (List Placed))) (from to : ℕ) → from ≤ to
+pub next-round : (t : TableNames) (jobs : List (Bor (List StretchConcepts))) (from to : ℕ) → from ≤ to
     → all_lines t (drop from jobs) ≡ all_lines t (take (to - from) (drop from jobs)) ++ all_lines t (drop to jobs)
 next-round t jobs from to h =
-    let round : List (Bor (List Placed)) = take (to - from) (drop from jobs) in
+    let round : List (Bor (List StretchConcepts)) = take (to - from) (drop from jobs) in
     let at : from + (to - from) ≡ to = omega (arith, h) in
     ap (all_lines t) (sym (take-append-drop (to - from) (drop from jobs)))
-    ∙ flat_map-append (λ (job : Bor (List Placed)). job_lines t job.now) round (drop (to - from) (drop from jobs))
-    ∙ ap (λ (js : List (Bor (List Placed))). all_lines t round ++ all_lines t js)
+    ∙ flat_map-append (λ (job : Bor (List StretchConcepts)). job_lines t job.now) round (drop (to - from) (drop from jobs))
+    ∙ ap (λ (js : List (Bor (List StretchConcepts))). all_lines t round ++ all_lines t js)
     (drop-drop (to - from) from jobs ∙ ap (λ k. drop k jobs) at)
 
 -- the first so many, and those up to another place

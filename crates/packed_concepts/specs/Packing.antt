@@ -1,7 +1,7 @@
 -- Concepts of which the places of all objects stand one behind the other.
 use Rattle.std.specs.Prelude.{◌+◌, ◌*◌, ◌<◌, ◌≤◌, ℕ, List, [], ◌∷◌, All, length, take, drop}
 use Rattle.fca_model.specs.Sets.{Set}
-use Rattle.packed_concepts.specs.Lines.{Named}
+use Rattle.packed_concepts.specs.Lines.{TableNames}
 use Rattle.packed_concepts.specs.declared.page.IntentAndCount.{IntentAndCount}
 
 -- how many places there are of all of them
@@ -15,7 +15,7 @@ unpacked [] places = []
 unpacked (p ∷ ps) places = (p.intent, take p.count places) ∷ unpacked ps (drop p.count places)
 
 -- the names of the concept are there
-pub record IsNamed (t : Named) (c : Set × List ℕ) : Type 0 where
+pub record IsNamed (t : TableNames) (c : Set × List ℕ) : Type 0 where
   pub wide : length c.0 ≤ length t.attributes
   pub inside : All (λ p. p < length t.objects) c.1
 

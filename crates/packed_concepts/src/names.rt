@@ -21,10 +21,10 @@ pub struct Names {
 
 impl Model for Names {
     ghost use Rattle.std.specs.Prelude.{map};
-    ghost use Rattle.packed_concepts.specs.Lines.{Named};
+    ghost use Rattle.packed_concepts.specs.Lines.{TableNames};
     ghost use Rattle.packed_concepts.specs.Listing.{without_comma, HaveCommas};
 
-    ghost Value = { Named };
+    ghost Value = { TableNames };
 
     ghost view = { λ n. record { attributes = map without_comma n.attributes; objects = map without_comma n.objects } };
 

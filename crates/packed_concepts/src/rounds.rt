@@ -44,7 +44,7 @@ pub(crate) fn write_jobs<R: Threads + Sync, K: Sink, const W: usize>(
     requires ready { All (λ job. All (IsReady names.now) job.now) jobs.now }
     requires enough { All (λ job. All (HasRoomForLines (length buffer.old)) job.now) jobs.now }
     requires some { 0 < length sheets.old }
-    ensures { WritesTo K.held K.faults K.beside K.asked_beside out.old out.new (all_lines names.now jobs.now) result }
+    ensures { WritesTo K.held K.faults K.beside K.read_counts_beside out.old out.new (all_lines names.now jobs.now) result }
 {
     let mut from = 0;
     while from < jobs.len() {
@@ -108,7 +108,7 @@ fn write_round<K: Sink, const W: usize>(
     requires enough { All (λ job. All (HasRoomForLines (length buffer.old)) job.now) jobs.now }
     requires even { length jobs.now ≤ length sheets.now }
     requires laid { EachLaid names.now jobs.now sheets.now }
-    ensures written { WritesTo K.held K.faults K.beside K.asked_beside out.old out.new (all_lines names.now jobs.now) result }
+    ensures written { WritesTo K.held K.faults K.beside K.read_counts_beside out.old out.new (all_lines names.now jobs.now) result }
     ensures room { length buffer.new ≡ length buffer.old }
 {
     for place in 0..jobs.len() {
@@ -128,7 +128,7 @@ fn write_job<K: Sink, const W: usize>(
     requires ready { All (IsReady names.now) job.now }
     requires enough { All (HasRoomForLines (length buffer.old)) job.now }
     requires laid { IsLaid names.now job.now sheet.now }
-    ensures written { WritesTo K.held K.faults K.beside K.asked_beside out.old out.new (job_lines names.now job.now) result }
+    ensures written { WritesTo K.held K.faults K.beside K.read_counts_beside out.old out.new (job_lines names.now job.now) result }
     ensures room { length buffer.new ≡ length buffer.old }
 {
     match sheet.text() {
@@ -146,7 +146,7 @@ fn write_stretches<K: Sink, const W: usize>(
 ) -> Result<(), Put>
     requires ready { All (IsReady names.now) job.now }
     requires enough { All (HasRoomForLines (length buffer.old)) job.now }
-    ensures written { WritesTo K.held K.faults K.beside K.asked_beside out.old out.new (job_lines names.now job.now) result }
+    ensures written { WritesTo K.held K.faults K.beside K.read_counts_beside out.old out.new (job_lines names.now job.now) result }
     ensures room { length buffer.new ≡ length buffer.old }
 {
     for stretch in job {

@@ -22,9 +22,9 @@ pub(crate) struct Stretch<'a, const W: usize> {
 impl<'a, const W: usize> Model for Stretch<'a, W> {
     ghost use Rattle.std.specs.Prelude.{◌≡◌, ◌≤◌, length};
     ghost use Rattle.packed_concepts.specs.Packing.{total, unpacked};
-    ghost use Rattle.packed_concepts.specs.Stretches.{Placed};
+    ghost use Rattle.packed_concepts.specs.Stretches.{StretchConcepts};
 
-    ghost Value = { Placed };
+    ghost Value = { StretchConcepts };
 
     ghost view = { λ s. record { first = s.first; concepts = unpacked s.packed.now s.places.now } };
 

@@ -28,7 +28,7 @@ use std::marker::Model;
 use std::thread::Threads;
 
 /// Fewer jobs than these are not worth several threads.
-const FEW_JOBS: usize = 64;
+const LEAST_JOBS: usize = 64;
 
 /// The least number of bytes of the buffer.
 const LEAST_ROOM: usize = MANY_BYTES + (1 << 16);
@@ -83,7 +83,7 @@ impl ConceptsText {
     /// Appends the whole text to the sink. After an `Err` the sink holds a front of it. If the text is long, several threads lay out its lines. Memory for
     /// that is taken before the first byte is written, and if there is none, one thread lays out all.
     pub fn write<R: Threads + Sync, K: Sink>(self, rt: &R, out: &mut K) -> Result<(), Put>
-        ensures { WritesTo K.held K.faults K.beside K.asked_beside out.old out.new self result }
+        ensures { WritesTo K.held K.faults K.beside K.read_counts_beside out.old out.new self result }
     {
         let ConceptsText {
             names,
@@ -102,7 +102,7 @@ impl ConceptsText {
 
     /// Appends the whole text to the sink, by one thread.
     fn write_alone<K: Sink>(self, out: &mut K) -> Result<(), Put>
-        ensures { WritesTo K.held K.faults K.beside K.asked_beside out.old out.new self result }
+        ensures { WritesTo K.held K.faults K.beside K.read_counts_beside out.old out.new self result }
     {
         let ConceptsText {
             names,
@@ -144,7 +144,7 @@ fn write_all<R: Threads + Sync, K: Sink, const W: usize>(
     requires named { All (IsNamed names.now) (flat_map (λ page. page) pages.now) }
     requires enough { All (HasRoomForLine (length buffer.old.items)) (flat_map (λ page. page) pages.now) }
     requires room { 64 ≤ length buffer.old.items }
-    ensures { WritesTo K.held K.faults K.beside K.asked_beside out.old out.new (lines_text names.now (flat_map (λ page. page) pages.now)) result }
+    ensures { WritesTo K.held K.faults K.beside K.read_counts_beside out.old out.new (lines_text names.now (flat_map (λ page. page) pages.now)) result }
 {
     match write_side_by_side(rt, out, names, buffer, count, pages) {
         Some(written) => written,
@@ -166,7 +166,7 @@ fn write_side_by_side<R: Threads + Sync, K: Sink, const W: usize>(
     requires named { All (IsNamed names.now) (flat_map (λ page. page) pages.now) }
     requires enough { All (HasRoomForLine (length buffer.old.items)) (flat_map (λ page. page) pages.now) }
     requires room { 64 ≤ length buffer.old.items }
-    ensures written { IfSome result (λ written. WritesTo K.held K.faults K.beside K.asked_beside out.old out.new
+    ensures written { IfSome result (λ written. WritesTo K.held K.faults K.beside K.read_counts_beside out.old out.new
         (lines_text names.now (flat_map (λ page. page) pages.now)) written) }
     ensures unwritten { IfNone result ((out.new ≡ out.old) × (buffer.new ≡ buffer.old)) }
 {
@@ -181,7 +181,7 @@ fn write_side_by_side<R: Threads + Sync, K: Sink, const W: usize>(
     let Ok(jobs) = line_jobs(alloc, &stretches) else {
         return None;
     };
-    if jobs.len() < FEW_JOBS {
+    if jobs.len() < LEAST_JOBS {
         return None;
     }
     let Ok(mut sheets) = sheets_of(alloc, threads, sheet_room(jobs.len(), buffer.len())) else {
@@ -211,7 +211,7 @@ fn write_jobs_counted<R: Threads + Sync, K: Sink, const W: usize>(
     requires enough { All (λ job. All (HasRoomForLines (length buffer.old)) job.now) jobs.now }
     requires room { 64 ≤ length buffer.old }
     requires some { 0 < length sheets.old }
-    ensures { WritesTo K.held K.faults K.beside K.asked_beside out.old out.new (count_line_of count ++ all_lines names.now jobs.now) result }
+    ensures { WritesTo K.held K.faults K.beside K.read_counts_beside out.old out.new (count_line_of count ++ all_lines names.now jobs.now) result }
 {
     let head = put_count_line(buffer, count);
     write_bytes(out, &buffer[..head])?;
@@ -230,7 +230,7 @@ fn write_through<K: Sink, const W: usize>(
     requires named { All (IsNamed names.now) (flat_map (λ page. page) pages.now) }
     requires enough { All (HasRoomForLine (length buffer.old)) (flat_map (λ page. page) pages.now) }
     requires room { 64 ≤ length buffer.old }
-    ensures { WritesTo K.held K.faults K.beside K.asked_beside out.old out.new (lines_text names.now (flat_map (λ page. page) pages.now)) result }
+    ensures { WritesTo K.held K.faults K.beside K.read_counts_beside out.old out.new (lines_text names.now (flat_map (λ page. page) pages.now)) result }
 {
     let head = put_count_line(buffer, count);
     let end = pass_pages(out, names, buffer, head, pages)?;

@@ -28,9 +28,9 @@ fn make_way<K: Sink>(out: &mut K, buffer: &[u8], end: usize, room: usize) -> Res
     requires end { end ≤ length buffer.now }
     requires room { room ≤ length buffer.now }
     ensures passed { IfOk result (λ start. HasPassed (K.held out.old) (K.held out.new) (K.faults out.old) (K.faults out.new) (K.beside out.old) (K.beside out.new)
-        (K.asked_beside out.old) (K.asked_beside out.new) (take end buffer.now) (take start buffer.now) []) }
+        (K.read_counts_beside out.old) (K.read_counts_beside out.new) (take end buffer.now) (take start buffer.now) []) }
     ensures room { IfOk result (λ start. start + room ≤ length buffer.now) }
-    ensures failed { IfErr result (λ fault. WritesTo K.held K.faults K.beside K.asked_beside out.old out.new
+    ensures failed { IfErr result (λ fault. WritesTo K.held K.faults K.beside K.read_counts_beside out.old out.new
         (take end buffer.now) (Err fault)) }
 {
     if end < MANY_BYTES && room <= buffer.len() - end {
@@ -56,10 +56,10 @@ fn pass_line<K: Sink, const W: usize>(
     requires end { end ≤ length buffer.old }
     requires few { place + 1 < 2 ^ 64 }
     ensures passed { IfOk result (λ new_end. HasPassed (K.held out.old) (K.held out.new) (K.faults out.old) (K.faults out.new) (K.beside out.old) (K.beside out.new)
-        (K.asked_beside out.old) (K.asked_beside out.new) (take end buffer.old) (take new_end buffer.new)
+        (K.read_counts_beside out.old) (K.read_counts_beside out.new) (take end buffer.old) (take new_end buffer.new)
         (line_of names.now (ordinal place) intent.now places.now)) }
     ensures end { IfOk result (λ new_end. new_end ≤ length buffer.new) }
-    ensures failed { IfErr result (λ fault. WritesTo K.held K.faults K.beside K.asked_beside out.old out.new
+    ensures failed { IfErr result (λ fault. WritesTo K.held K.faults K.beside K.read_counts_beside out.old out.new
         (take end buffer.old) (Err fault)) }
     ensures room { length buffer.new ≡ length buffer.old }
 {
@@ -82,10 +82,10 @@ pub(crate) fn pass_stretch<K: Sink, const W: usize>(
     requires enough { HasRoomForLines (length buffer.old) stretch.now }
     requires end { end ≤ length buffer.old }
     ensures passed { IfOk result (λ new_end. HasPassed (K.held out.old) (K.held out.new) (K.faults out.old) (K.faults out.new) (K.beside out.old) (K.beside out.new)
-        (K.asked_beside out.old) (K.asked_beside out.new) (take end buffer.old) (take new_end buffer.new)
+        (K.read_counts_beside out.old) (K.read_counts_beside out.new) (take end buffer.old) (take new_end buffer.new)
         (lines_on names.now stretch.now)) }
     ensures end { IfOk result (λ new_end. new_end ≤ length buffer.new) }
-    ensures failed { IfErr result (λ fault. WritesTo K.held K.faults K.beside K.asked_beside out.old out.new
+    ensures failed { IfErr result (λ fault. WritesTo K.held K.faults K.beside K.read_counts_beside out.old out.new
         (take end buffer.old ++ lines_on names.now stretch.now) (Err fault)) }
     ensures room { length buffer.new ≡ length buffer.old }
 {
@@ -116,10 +116,10 @@ pub(crate) fn pass_pages<K: Sink, const W: usize>(
     requires end { end ≤ length buffer.old }
     requires few { length (flat_map (λ page. page) pages.now) < 2 ^ 64 }
     ensures passed { IfOk result (λ new_end. HasPassed (K.held out.old) (K.held out.new) (K.faults out.old) (K.faults out.new) (K.beside out.old) (K.beside out.new)
-        (K.asked_beside out.old) (K.asked_beside out.new) (take end buffer.old) (take new_end buffer.new)
+        (K.read_counts_beside out.old) (K.read_counts_beside out.new) (take end buffer.old) (take new_end buffer.new)
         (lines_from names.now 0 (flat_map (λ page. page) pages.now))) }
     ensures end { IfOk result (λ new_end. new_end ≤ length buffer.new) }
-    ensures failed { IfErr result (λ fault. WritesTo K.held K.faults K.beside K.asked_beside out.old out.new
+    ensures failed { IfErr result (λ fault. WritesTo K.held K.faults K.beside K.read_counts_beside out.old out.new
         (take end buffer.old ++ lines_from names.now 0 (flat_map (λ page. page) pages.now)) (Err fault)) }
     ensures room { length buffer.new ≡ length buffer.old }
 {

@@ -21,7 +21,7 @@ use implication_closure::{Implication, ImplicationList};
 use judging::judge_in_threads;
 pub use judging::{judge_all, level};
 pub use member_index::MemberIndex;
-pub use settling::open_level;
+pub use settling::settle_level;
 use std::alloc::Global;
 use std::thread::Threads;
 
@@ -61,7 +61,7 @@ fn next_members<R: Threads + Sync>(
 {
     let sets = candidates.of_size(alloc, size)?;
     let answers = judge_in_threads(rt, alloc, rows, found, &sets)?;
-    open_level(alloc, candidates, found, &sets, &answers, size)
+    settle_level(alloc, candidates, found, &sets, &answers, size)
 }
 
 /// Makes each conclusion with one further attribute a candidate.

@@ -14,7 +14,7 @@ use implication_closure::Implication;
 use std::alloc::Global;
 
 /// The members of the basis among the candidates of size k, by the answers for these. The other candidates of that size add larger ones.
-pub fn open_level(
+pub fn settle_level(
     alloc: Global,
     candidates: &mut CandidateSets,
     found: &MemberIndex,

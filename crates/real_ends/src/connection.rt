@@ -8,10 +8,10 @@ use std::os::fd::OwnedFd;
 use std::time::Duration;
 
 /// How often a socket is read before it is closed.
-const LOOKS: usize = 64;
+const CLOSING_READS: usize = 64;
 
 /// The most bytes of such a read.
-const LOOK_BYTES: usize = 16_384;
+const CLOSING_READ_BYTES: usize = 16_384;
 
 /// How many milliseconds such a read waits for a byte.
 const PATIENCE: u64 = 50;
@@ -52,7 +52,7 @@ impl Connection {
 }
 
 /// Ends the writing side first and then reads the rest, since a socket that is closed with unread bytes discards what the peer has not read
-/// yet. It stops reading at the end of the peer, after a while without a byte, or after `LOOKS` reads.
+/// yet. It stops reading at the end of the peer, after a while without a byte, or after `CLOSING_READS` reads.
 impl Drop for Connection {
     fn drop(self) {
         let Connection {
@@ -69,10 +69,10 @@ impl Drop for Connection {
     }
 }
 
-/// Reads the rest, with at most `LOOKS` reads.
+/// Reads the rest, with at most `CLOSING_READS` reads.
 fn read_rest(stream: &mut TcpStream) {
-    let mut bytes = [0; LOOK_BYTES];
-    for _ in 0..LOOKS {
+    let mut bytes = [0; CLOSING_READ_BYTES];
+    for _ in 0..CLOSING_READS {
         match stream.read(&mut bytes) {
             Ok(count) if count > 0 => {}
             _ => return,

@@ -4,11 +4,11 @@
 
 mod address;
 mod connection;
-mod ends;
 mod link;
+mod streams;
 mod words;
 
 pub use address::is_address;
-pub use ends::{CountedInput, CountedOutput, FileShelf, StdFault, StdInput, StdOutput};
 pub use link::{TcpEnd, TcpLink};
+pub use streams::{CountedInput, CountedOutput, FileShelf, StdFault, StdInput, StdOutput};
 pub use words::words_of;

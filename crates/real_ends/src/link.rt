@@ -54,7 +54,7 @@ impl Sink for TcpEnd {
 
     ghost beside = { λ _. None };
 
-    ghost asked_beside = { λ e. record { reads = Some e.reads; faults = e.read_faults } };
+    ghost read_counts_beside = { λ e. record { reads = Some e.reads; faults = e.read_faults } };
 
     fn write(&mut self, from: &[u8]) -> Result<usize, Failed> {
         match self.connection.write(from) {

@@ -5,7 +5,7 @@ use Rattle.std.specs.List.{list_all}
 use Rattle.std.specs.Prelude.{None}
 use Rattle.fca_model.specs.declared.TheConstants.{MAX_EXPERTS}
 use Rattle.fca_model.specs.Tables.{NamedContext}
-use Rattle.fca_model.specs.Exploration.{State, Settings, SetEvent, is_expert, expert_of, has_width, journal_of}
+use Rattle.fca_model.specs.Exploration.{State, Settings, SetEvent, is_expert, expert_of, has_row_of_width, journal_of}
 use Rattle.fca_model.proofs.RunLemmas.{legal_journal}
 use Rattle.explore_state.specs.History.{opening_state}
 use Rattle.implication_closure.specs.Closing.{HaveWidth}
@@ -31,6 +31,6 @@ pub explored-course : (table : NamedContext) (settings : Settings) (events : Lis
     → IsExplored (exploration_by table settings events)
 explored-course table settings events unbroken wide may =
     let s : State = opening_state (replay_opening table settings) in
-    let parts = both-all (λ event. is_expert (expert_of event)) (has_width table.context.width) events may in
+    let parts = both-all (λ event. is_expert (expert_of event)) (has_row_of_width table.context.width) events may in
     legal-course table MAX_EXPERTS settings (journal_of s events) refl (unbroken_rows settings.known 0 table.context.rows unbroken) wide
     (legal_journal s events parts.0 parts.1)

@@ -5,7 +5,7 @@ use Rattle.std.proofs.lemmas.Bool.{and_parts, leb-true}
 use Rattle.std.specs.Prelude.{IfOk, OnOk}
 use Rattle.fca_model.specs.Tables.{Text, NamedContext}
 use Rattle.fca_model.specs.declared.TheConstants.{MAX_EXPERTS}
-use Rattle.fca_model.specs.Exploration.{State, Settings, SetEvent, SetReply, SetEntry, is_expert, expert_of, has_width, reply_to}
+use Rattle.fca_model.specs.Exploration.{State, Settings, SetEvent, SetReply, SetEntry, is_expert, expert_of, has_row_of_width, reply_to}
 use Rattle.fca_model.specs.Exploration.{state_after, journal_of, events_of}
 use Rattle.fca_model.proofs.RunLemmas.{journal_of-push, events_of-journal_of}
 use Rattle.explore_state.specs.History.{Opening, ExploreModel, opening_state, state_of, Admits, IsStep}
@@ -15,7 +15,7 @@ use Rattle.command_io.specs.Causes.{IsScriptStop}
 use Rattle.command_io.specs.Endings.{Output, IsFile, IsOfFile}
 use Rattle.command_io.specs.Explorations.{Exploration, exploration_of, IsExplored}
 use Rattle.command_io.specs.declared.stop.Stop.{Stop}
-use Rattle.command_io.specs.declared.stop.Stop.TheVariants.{TooLong, NoScript, Fault, Memory}
+use Rattle.command_io.specs.declared.stop.Stop.TheVariants.{TooLong, NoScript, ReadFault, Memory}
 use Rattle.replay_command.specs.Replayed.{replay_opening, exploration_by, exploration_output, SpellsItself, MayReplay, IsSettingsStop}
 use Rattle.replay_command.specs.Replayed.{IsInputStop}
 
@@ -63,7 +63,7 @@ exploration_of-push table settings events old new event reply e step =
 pub exploration_of-admits : (table : NamedContext) (settings : Settings) (events : List SetEvent) (h : ExploreModel) (event : SetEvent)
     → exploration_of h ≡ exploration_by table settings events → may_apply table.context.width event ≡ true → Admits h.opening event
 exploration_of-admits table settings events h event e may =
-    let parts = and_parts (is_expert (expert_of event)) (has_width table.context.width event) may in
+    let parts = and_parts (is_expert (expert_of event)) (has_row_of_width table.context.width event) may in
     let range = and_parts (nat_le 1 (expert_of event)) (nat_le (expert_of event) MAX_EXPERTS) parts.0 in
     let P : Opening → Type 0 = λ o. Admits o event in
     subst P (sym (opened table settings events h e)) (record { first = leb-true _ _ range.0; last = leb-true _ _ range.1; wide = parts.1 })
@@ -83,7 +83,7 @@ MayReplay-made reading made (Err stop) may course whole spells = tt
 -- ---- the stop of an input is of no file
 
 script-of_input : (n : ℕ) (input : Option Text) (rose : Type 0) (s : Stop) → IsScriptStop n input rose s → IsOfFile s → ⊥
-script-of_input n input rose (Fault at) is file = subst IsFile is.0 file
+script-of_input n input rose (ReadFault at) is file = subst IsFile is.0 file
 script-of_input n input rose (TooLong at) is file = subst IsFile is.0 file
 script-of_input n input rose (NoScript fault) is file = file
 script-of_input n input rose Memory is file = file

@@ -66,7 +66,7 @@ exploration_read known input start =
 
 -- the exploration that `replay` records
 abbrev pub replay_read : Text → Option Text → (Text → Told) → Option Text → Reading Exploration
-replay_read file known files input = then (start_read file known files) (exploration_read known input)
+replay_read file known tells input = then (start_read file known tells) (exploration_read known input)
 
 -- the text of an exploration
 abbrev pub exploration_output : Exploration → Output
@@ -74,13 +74,13 @@ exploration_output r = record { text = explore_text r.opening.table r.opening.se
 
 -- what `replay` writes
 abbrev pub replay_output : Text → Option Text → (Text → Told) → Option Text → Reading Output
-replay_output file known files input = then (replay_read file known files input) (λ r. Read (exploration_output r))
+replay_output file known tells input = then (replay_read file known tells input) (λ r. Read (exploration_output r))
 
 -- The replay of the exploration's table on the text is exactly this exploration, whatever file has the table, if there is no known file.
 -- Its text is the transcript and the sections, without the lines after them
 abbrev pub IsFedBack : Exploration → Text → Type 0
-IsFedBack r text = (file : Text) (files : Text → Told) → table_read file (files file) ≡ Read r.opening.table
-    → replay_output file None files (Some text) ≡ Read (exploration_output r)
+IsFedBack r text = (file : Text) (tells : Text → Told) → table_read file (tells file) ≡ Read r.opening.table
+    → replay_output file None tells (Some text) ≡ Read (exploration_output r)
 
 -- its text spells its settings and its history
 abbrev pub SpellsItself : Exploration → Type 0
@@ -114,5 +114,5 @@ IsInputStop known table input rose stop = IsScriptStop table.context.width input
 
 -- The stop for the files of a replay, or, if these were read, for its script
 abbrev pub IsReplayStop : Text → Option Text → (Text → Told) → Option Text → (Text → Type 0) → Type 0 → Stop → Type 0
-IsReplayStop file known files input rises rose stop = IsStartStop file known files rises stop
-    ⊎ ((start : Start) × MayRead (start_read file known files) start × IsInputStop known start.table input rose stop)
+IsReplayStop file known tells input rises rose stop = IsStartStop file known tells rises stop
+    ⊎ ((start : Start) × MayRead (start_read file known tells) start × IsInputStop known start.table input rose stop)

@@ -10,7 +10,7 @@ ghost use Rattle.exploration_terms.specs.Settings.{settings_of};
 ghost use Rattle.expert_scripts.specs.Scripts.{may_apply};
 ghost use Rattle.expert_scripts.specs.Transcripts.{SettingsCanBeWritten};
 ghost use Rattle.command_io.specs.Readings.{MayRead, MayRefuse, Rises, SameCounts};
-ghost use Rattle.command_io.specs.Causes.{UnlessFault};
+ghost use Rattle.command_io.specs.Causes.{UnlessReadFault};
 ghost use Rattle.command_io.specs.Known.{start_of};
 ghost use Rattle.command_io.specs.Explorations.{IsExplored, exploration_of};
 ghost use Rattle.command_io.specs.Endings.{IsRefusal, IsOfFile};
@@ -42,9 +42,9 @@ pub fn replay<H: Shelf, S: Source>(
     ensures refused { IfErr result (λ stop. IsRefusal stop → MayRefuse (replay_output file.now (option_copied known.entry) (H.tells shelf.old) (S.left input.old))) }
     ensures cause { IfErr result (IsReplayStop file.now (option_copied known.entry) (H.tells shelf.old) (S.left input.old)
         (Rises (H.faults shelf.old) (H.faults shelf.new)) (Rose (S.faults input.old) (S.faults input.new))) }
-    ensures quiet { UnlessFault result (SameCounts (H.faults shelf.old) (H.faults shelf.new)) }
+    ensures quiet { UnlessReadFault result (SameCounts (H.faults shelf.old) (H.faults shelf.new)) }
     ensures few { RoseAtMost (H.fetches shelf.old) (H.fetches shelf.new) (length (file.now ∷ option_to_list (option_copied known.entry))) }
-    ensures quiet_input { UnlessFault result (S.faults input.new ≡ S.faults input.old) }
+    ensures quiet_input { UnlessReadFault result (S.faults input.new ≡ S.faults input.old) }
 {
     let explore = exploration(alloc, shelf, input, file, known)?;
     exploration_output(alloc, &explore)
@@ -66,9 +66,9 @@ fn exploration<H: Shelf, S: Source>(
     ensures refused { IfErr result (λ stop. IsRefusal stop → MayRefuse (replay_read file.now (option_copied known.entry) (H.tells shelf.old) (S.left input.old))) }
     ensures cause { IfErr result (IsReplayStop file.now (option_copied known.entry) (H.tells shelf.old) (S.left input.old)
         (Rises (H.faults shelf.old) (H.faults shelf.new)) (Rose (S.faults input.old) (S.faults input.new))) }
-    ensures quiet { UnlessFault result (SameCounts (H.faults shelf.old) (H.faults shelf.new)) }
+    ensures quiet { UnlessReadFault result (SameCounts (H.faults shelf.old) (H.faults shelf.new)) }
     ensures few { RoseAtMost (H.fetches shelf.old) (H.fetches shelf.new) (length (file.now ∷ option_to_list (option_copied known.entry))) }
-    ensures quiet_input { UnlessFault result (S.faults input.new ≡ S.faults input.old) }
+    ensures quiet_input { UnlessReadFault result (S.faults input.new ≡ S.faults input.old) }
 {
     let start = load_start(alloc, shelf, file, known)?;
     explore_by_script(alloc, input, known, start)
@@ -91,7 +91,7 @@ fn explore_by_script<S: Source>(
     ensures refused { IfErr result (λ stop. IsRefusal stop → MayRefuse (exploration_read (option_copied known_file.entry) (S.left input.old) (start_of start))) }
     ensures cause { IfErr result (IsInputStop (option_copied known_file.entry) start.table (S.left input.old)
         (Rose (S.faults input.old) (S.faults input.new))) }
-    ensures quiet { UnlessFault result (S.faults input.new ≡ S.faults input.old) }
+    ensures quiet { UnlessReadFault result (S.faults input.new ≡ S.faults input.old) }
 {
     let Start { table, known } = start;
     let script = load_script(alloc, input, table.rows().width())?;

@@ -37,17 +37,17 @@ lattice_text t cs pairs = concepts_text t cs ++ (count_line (codes "covers ") (l
 -- ---- implications
 
 -- the words, the number of an implication, and its arrow text
-abbrev pub arrow_line : Text → List Text → ℕ → Rule → Text
-arrow_line words attributes place i = words ++ (ordinal place ++ (codes " " ++ (arrow_text attributes i ++ line_end)))
+abbrev pub implication_line : Text → List Text → ℕ → Rule → Text
+implication_line words attributes place i = words ++ (ordinal place ++ (codes " " ++ (arrow_text attributes i ++ line_end)))
 
 -- a line for each implication
-abbrev pub arrow_lines : Text → List Text → List Rule → Text
-arrow_lines words attributes J = flat_map (λ x. arrow_line words attributes x.0 x.1) (enumerate_from 0 J)
+abbrev pub implication_lines : Text → List Text → List Rule → Text
+implication_lines words attributes J = flat_map (λ x. implication_line words attributes x.0 x.1) (enumerate_from 0 J)
 
 -- the number of members of a basis, and a line for each
 abbrev pub basis_text : List Text → List Rule → Text
-basis_text attributes J = count_line (codes "basis ") (length J) ++ arrow_lines [] attributes J
+basis_text attributes J = count_line (codes "basis ") (length J) ++ implication_lines [] attributes J
 
 -- the number of members of a direct basis, and a line for each
 abbrev pub direct_text : List Text → List Rule → Text
-direct_text attributes J = count_line (codes "direct ") (length J) ++ arrow_lines [] attributes J
+direct_text attributes J = count_line (codes "direct ") (length J) ++ implication_lines [] attributes J

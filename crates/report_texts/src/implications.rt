@@ -1,7 +1,7 @@
 //! Lists of implications as texts.
 
 ghost use Rattle.std.specs.Prelude.{◌≡◌, ◌++◌, ℕ, codes, IfOk, OnOk};
-ghost use Rattle.report_texts.specs.Reports.{arrow_line, arrow_lines, basis_text, direct_text};
+ghost use Rattle.report_texts.specs.Reports.{implication_line, implication_lines, basis_text, direct_text};
 
 use crate::count_line::write_count_line;
 use context_table::Table;
@@ -16,7 +16,7 @@ pub fn basis_text(alloc: Global, table: &Table, list: &ImplicationList) -> Resul
 {
     let mut draft = Draft::new(alloc);
     write_count_line(&mut draft, b"basis ", list.as_slice().len())?;
-    write_arrows(&mut draft, table, b"", list.as_slice())?;
+    write_implications(&mut draft, table, b"", list.as_slice())?;
     Ok(draft.into_bytes())
 }
 
@@ -26,34 +26,34 @@ pub fn direct_text(alloc: Global, table: &Table, list: &ImplicationList) -> Resu
 {
     let mut draft = Draft::new(alloc);
     write_count_line(&mut draft, b"direct ", list.as_slice().len())?;
-    write_arrows(&mut draft, table, b"", list.as_slice())?;
+    write_implications(&mut draft, table, b"", list.as_slice())?;
     Ok(draft.into_bytes())
 }
 
 /// Appends a line for each implication: the words, its number, and its arrow text. Numbers begin at 1.
-pub fn write_arrows(
+pub fn write_implications(
     draft: &mut Draft,
     table: &Table,
     words: &[u8],
     list: &[Implication],
 ) -> Result<(), Memory>
-    ensures { OnOk result (draft.new ≡ draft.old ++ arrow_lines words.now table.now.attributes list.now) }
+    ensures { OnOk result (draft.new ≡ draft.old ++ implication_lines words.now table.now.attributes list.now) }
 {
     for (place, implication) in list.iter().enumerate() {
-        write_arrow(draft, table, words, place, implication)?;
+        write_implication(draft, table, words, place, implication)?;
     }
     Ok(())
 }
 
 /// Appends the line of one implication: the words, its number, and its arrow text.
-pub fn write_arrow(
+pub fn write_implication(
     draft: &mut Draft,
     table: &Table,
     words: &[u8],
     place: usize,
     implication: &Implication,
 ) -> Result<(), Memory>
-    ensures { OnOk result (draft.new ≡ draft.old ++ arrow_line words.now table.now.attributes place implication.now) }
+    ensures { OnOk result (draft.new ≡ draft.old ++ implication_line words.now table.now.attributes place implication.now) }
 {
     let gained = implication.conclusion.minus(&implication.premise);
     draft.append_parts(

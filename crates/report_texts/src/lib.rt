@@ -7,4 +7,4 @@ mod implications;
 
 pub use concepts::{concepts_text, lattice_text, object_text};
 pub use count_line::write_count_line;
-pub use implications::{basis_text, direct_text, write_arrow, write_arrows};
+pub use implications::{basis_text, direct_text, write_implication, write_implications};

@@ -59,7 +59,7 @@ module _ {E : Type 0} where
   pub short-memory : (count : ℕ) (a : Option (Ends E)) (rose : Type 0) (s : Stop) → s ≡ Memory → FallsShort count a a rose s
   short-memory count a rose s memory = record {
     taken = [];
-    served = TookAndGave-none a;
+    ends = TookAndGave-none a;
     few = omega arith;
     fewer = λ listener. cc;
     fault = λ listener. cc;
@@ -71,7 +71,7 @@ module _ {E : Type 0} where
       → FallsShort count a c rose s
   short-some count a c taken rose s served fewer risen listener = record {
     taken = taken;
-    served = served;
+    ends = served;
     few = omega arith;
     fewer = λ _. fewer;
     fault = λ _. risen;
@@ -91,7 +91,7 @@ module _ {E : Type 0} where
       let P : Option (Ends E) → Type 0 = λ x. TookAndGave x c short.taken short.taken in
       record {
         taken = short.taken;
-        served = subst P same short.served;
+        ends = subst P same short.ends;
         few = short.few;
         fewer = short.fewer;
         fault = λ listener. more (short.fault listener);

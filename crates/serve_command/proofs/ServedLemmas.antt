@@ -23,7 +23,7 @@ use Rattle.command_io.specs.Known.{Start}
 use Rattle.command_io.proofs.CourseLemmas.{legal-course}
 use Rattle.serve_command.specs.Accepted.{GaveBack, HasRoomFor}
 use Rattle.serve_command.specs.Openings.{opening_by, IsNew}
-use Rattle.serve_command.specs.Served.{ended_words, IsServedText, HasServedAll, HasRisen}
+use Rattle.serve_command.specs.Served.{ended_words, IsServedText, HasServedAll, HasReturnedEnds}
 
 -- ---- words
 
@@ -129,14 +129,14 @@ module _ {E : Type 0} (left held : E → Option Text) (reads : E → Option ℕ)
         is = served-text o before after explore ended output.text output.ending expert known even over made;
       }
 
-  pub risen-talks : (table : NamedContext) (H : List SetEntry) (before after : List E) (old new : Option (Ends E)) (ended : List Ended)
+  pub returned-talks : (table : NamedContext) (H : List SetEntry) (before after : List E) (old new : Option (Ends E)) (ended : List Ended)
       → EachTalks left held reads read_faults write_faults table MAX_LINES H 1 before after ended
       → (HasRoomFor old (length after) → GaveBack old new after)
-      → HasRisen left held reads read_faults write_faults before old new
-  risen-talks table H before after old new ended talks gave =
+      → HasReturnedEnds left held reads read_faults write_faults before old new
+  returned-talks table H before after old new ended talks gave =
       let long = talks-long table MAX_LINES H 1 before after ended talks in
       record { after = after; gave = gave; long = long; talked = inr (table, H, ended, talks) }
 
-  pub risen-same : (before after : List E) (old new : Option (Ends E)) → after ≡ before
-      → (HasRoomFor old (length after) → GaveBack old new after) → HasRisen left held reads read_faults write_faults before old new
-  risen-same before after old new same gave = record { after = after; gave = gave; long = ap length same; talked = inl same }
+  pub returned-same : (before after : List E) (old new : Option (Ends E)) → after ≡ before
+      → (HasRoomFor old (length after) → GaveBack old new after) → HasReturnedEnds left held reads read_faults write_faults before old new
+  returned-same before after old new same gave = record { after = after; gave = gave; long = ap length same; talked = inl same }

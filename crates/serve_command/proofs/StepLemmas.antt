@@ -16,7 +16,7 @@ use Rattle.command_io.specs.Endings.{Output, IsRefusal, IsUnread}
 use Rattle.command_io.specs.declared.stop.Stop.{Stop}
 use Rattle.command_io.specs.declared.stop.Stop.TheVariants.{Listener, Memory}
 use Rattle.serve_command.specs.Accepted.{TookFirst, FallsShort}
-use Rattle.serve_command.specs.Served.{IsServeStop, IsOutput, GaveAllBack, HasServedAll, HasRisen}
+use Rattle.serve_command.specs.Served.{IsServeStop, IsOutput, GaveAllBack, HasServedAll, HasReturnedEnds}
 use Rattle.serve_command.proofs.AcceptedLemmas.{TookAndGave-none, TookAndGave-both}
 
 -- ---- results
@@ -64,17 +64,17 @@ module _ {E : Type 0} where
   short-back left held reads read_faults write_faults count a b link_rose s short = record {
     before = short.taken;
     after = short.taken;
-    ends = short.served;
+    ends = short.ends;
     talked = inl refl;
     few = short.few;
     fewer = λ listener. (short.fewer listener, refl);
   }
 
-  risen-back : (left held : E → Option Text) (reads : E → Option ℕ) (read_faults write_faults : E → ℕ) (count : ℕ) (a b c : Option (Ends E))
+  returned-back : (left held : E → Option Text) (reads : E → Option ℕ) (read_faults write_faults : E → ℕ) (count : ℕ) (a b c : Option (Ends E))
       (before : List E) (s : Stop) → IsWithinRoom a → TookFirst a b before
-      → length before ≡ count → HasRisen left held reads read_faults write_faults before b c → s ≡ Memory
+      → length before ≡ count → HasReturnedEnds left held reads read_faults write_faults before b c → s ≡ Memory
       → GaveAllBack left held reads read_faults write_faults count a c (s ≡ Listener)
-  risen-back left held reads read_faults write_faults count a b c before s within took many risen memory = record {
+  returned-back left held reads read_faults write_faults count a b c before s within took many risen memory = record {
     before = before;
     after = risen.after;
     ends = TookAndGave-both a b c before risen.after within risen.long took risen.gave;
@@ -83,15 +83,15 @@ module _ {E : Type 0} where
     fewer = λ listener. cc;
   }
 
-  pub risen-ends : (left held : E → Option Text) (reads : E → Option ℕ) (read_faults write_faults : E → ℕ) (count : ℕ)
+  pub returned-ends : (left held : E → Option Text) (reads : E → Option ℕ) (read_faults write_faults : E → ℕ) (count : ℕ)
       (a b c : Option (Ends E))
       (before : List E) (r : Result Output Stop) → IsWithinRoom a
-      → TookFirst a b before → length before ≡ count → IfErr r (λ _. HasRisen left held reads read_faults write_faults before b c)
+      → TookFirst a b before → length before ≡ count → IfErr r (λ _. HasReturnedEnds left held reads read_faults write_faults before b c)
       → IfErr r (λ stop. stop ≡ Memory)
       → IfErr r (λ stop. GaveAllBack left held reads read_faults write_faults count a c (stop ≡ Listener))
-  risen-ends left held reads read_faults write_faults count a b c before (Ok o) within took many risen memory = tt
-  risen-ends left held reads read_faults write_faults count a b c before (Err s) within took many risen memory =
-      risen-back left held reads read_faults write_faults count a b c before s within took many risen memory
+  returned-ends left held reads read_faults write_faults count a b c before (Ok o) within took many risen memory = tt
+  returned-ends left held reads read_faults write_faults count a b c before (Err s) within took many risen memory =
+      returned-back left held reads read_faults write_faults count a b c before s within took many risen memory
 
   pub served-output : (left held : E → Option Text) (reads : E → Option ℕ) (read_faults write_faults : E → ℕ) (o : Opening)
       (a b c : Option (Ends E))

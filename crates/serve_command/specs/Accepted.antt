@@ -30,7 +30,7 @@ module _ {E : Type 0} where
   -- fewer ends came than the count: those that came were given back as they were, and the listener failed or memory ran out
   pub record FallsShort (count : ℕ) (old new : Option (Ends E)) (rose : Type 0) (stop : Stop) : Type 0 where
     pub taken : List E
-    pub served : TookAndGave old new taken taken
+    pub ends : TookAndGave old new taken taken
     pub few : length taken ≤ count
     pub fewer : stop ≡ Listener → length taken < count
     pub fault : stop ≡ Listener → rose

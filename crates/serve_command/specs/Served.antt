@@ -100,7 +100,7 @@ module _ {E : Type 0} (left held : E → Option Text) (reads : E → Option ℕ)
     pub is : IsServedText o before after output.text output.ending
 
   -- these ends were given back if there was room, as they were or after their sessions
-  pub record HasRisen (before : List E) (old new : Option (Ends E)) : Type 0 where
+  pub record HasReturnedEnds (before : List E) (old new : Option (Ends E)) : Type 0 where
     pub after : List E
     pub gave : HasRoomFor old (length after) → GaveBack old new after
     pub long : length after ≡ length before
@@ -108,5 +108,5 @@ module _ {E : Type 0} (left held : E → Option Text) (reads : E → Option ℕ)
 
 -- the stop for the files, or, if these were read, for the link, whose count of faults rose
 abbrev pub IsServeStop : Text → Option Text → (Text → Told) → (Text → Type 0) → Type 0 → Stop → Type 0
-IsServeStop file known files rises link_rose stop = IsStartStop file known files rises stop
-    ⊎ ((stop ≡ Listener) × (start : Start) × MayRead (start_read file known files) start × link_rose)
+IsServeStop file known tells rises link_rose stop = IsStartStop file known tells rises stop
+    ⊎ ((stop ≡ Listener) × (start : Start) × MayRead (start_read file known tells) start × link_rose)

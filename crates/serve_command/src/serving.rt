@@ -10,11 +10,11 @@ ghost use Rattle.basis_report.specs.Explorations.{explore_text, Spells};
 ghost use Rattle.basis_report.specs.Sessions.{sessions_text};
 ghost use Rattle.expert_scripts.specs.Transcripts.{SettingsCanBeWritten};
 ghost use Rattle.command_io.specs.Readings.{MayRefuse, Rises, SameCounts};
-ghost use Rattle.command_io.specs.Causes.{UnlessFault, UnlessListener};
+ghost use Rattle.command_io.specs.Causes.{UnlessReadFault, UnlessListener};
 ghost use Rattle.command_io.specs.Known.{start_read};
 ghost use Rattle.command_io.specs.Endings.{ending_of, IsRefusal, IsUnread};
 ghost use Rattle.serve_command.specs.Openings.{IsNew};
-ghost use Rattle.serve_command.specs.Served.{ended_words, IsServeStop, MayServe, GaveAllBack, HasServedAll, HasRisen};
+ghost use Rattle.serve_command.specs.Served.{ended_words, IsServeStop, MayServe, GaveAllBack, HasServedAll, HasReturnedEnds};
 
 use crate::accepting::{ends_at, give_back};
 use crate::ended_words::all_ended_words;
@@ -64,7 +64,7 @@ pub fn serve<R: Threads + Wait + Sync, H: Shelf, L: Listener>(
     ensures refused { IfErr result (λ stop. IsRefusal stop → MayRefuse (start_read file.now (option_copied known.entry) (H.tells shelf.old))) }
     ensures cause { IfErr result (IsServeStop file.now (option_copied known.entry) (H.tells shelf.old) (Rises (H.faults shelf.old) (H.faults shelf.new))
         (Rises (L.open_faults link.old) (L.open_faults link.new) invitation.now.address.now ⊎ Rose (L.accept_faults link.old) (L.accept_faults link.new))) }
-    ensures quiet { UnlessFault result (SameCounts (H.faults shelf.old) (H.faults shelf.new)) }
+    ensures quiet { UnlessReadFault result (SameCounts (H.faults shelf.old) (H.faults shelf.new)) }
     ensures few { RoseAtMost (H.fetches shelf.old) (H.fetches shelf.new) (length (file.now ∷ option_to_list (option_copied known.entry))) }
     ensures quiet_open { UnlessListener result (SameCounts (L.open_faults link.old) (L.open_faults link.new)) }
     ensures quiet_accept { UnlessListener result (L.accept_faults link.new ≡ L.accept_faults link.old) }
@@ -91,7 +91,7 @@ fn explore_over<R: Threads + Wait + Sync, L: Listener>(
 
     ensures served_all { IfOk result (λ output. HasServedAll L.End.Source.left L.End.Sink.held L.End.Source.reads L.End.Source.faults
         L.End.Sink.faults explore.opening ends.items (L.ends link.old) (L.ends link.new) output) }
-    ensures risen { IfErr result (λ _. HasRisen L.End.Source.left L.End.Sink.held L.End.Source.reads L.End.Source.faults L.End.Sink.faults
+    ensures returned { IfErr result (λ _. HasReturnedEnds L.End.Source.left L.End.Sink.held L.End.Source.reads L.End.Source.faults L.End.Sink.faults
         ends.items (L.ends link.old) (L.ends link.new)) }
     ensures cause { IfErr result (λ stop. stop ≡ Stop.Memory) }
     ensures same { (L.listens link.new ≡ L.listens link.old) × (L.listens_at link.new ≡ L.listens_at link.old) }

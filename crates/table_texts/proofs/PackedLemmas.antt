@@ -12,7 +12,7 @@ use Rattle.lectic_concepts.proofs.IntentLemmas.{intents_wide}
 use Rattle.extent_places.proofs.PlaceLemmas.{all_placed}
 use Rattle.lectic_concepts.specs.Concepts.{concepts}
 use Rattle.report_texts.specs.Reports.{concepts_text}
-use Rattle.packed_concepts.specs.Lines.{Named, lines_text}
+use Rattle.packed_concepts.specs.Lines.{TableNames, lines_text}
 use Rattle.packed_concepts.specs.Packing.{IsNamed}
 use Rattle.concept_walk.specs.Gatherings.{IsGathering, concept_at}
 use Rattle.concept_walk.proofs.LineLemmas.{named, text_whole}
@@ -52,14 +52,14 @@ all-named : (t : NamedContext) → length t.attributes ≡ t.context.width → l
 all-named t attributes objects = named-all t (intents t.context) attributes objects (intents_wide t.context)
 
 -- the names of a table and its concepts, as they were found apart
-pub named-whole : (t : NamedContext) (names : Named) (cs : List (Set × List ℕ)) → names ≡ named t
+pub named-whole : (t : NamedContext) (names : TableNames) (cs : List (Set × List ℕ)) → names ≡ named t
     → cs ≡ map (concept_at t.context) (intents t.context)
     → length t.attributes ≡ t.context.width → length t.objects ≡ length t.context.rows → All (IsNamed names) cs
 named-whole t names cs is made attributes objects =
-    subst (λ (n : Named). All (IsNamed n) cs) (sym is)
+    subst (λ (n : TableNames). All (IsNamed n) cs) (sym is)
     (subst (λ (ds : List (Set × List ℕ)). All (IsNamed (named t)) ds) (sym made) (all-named t attributes objects))
 
-pub text-whole : (t : NamedContext) (names : Named) (cs : List (Set × List ℕ)) → names ≡ named t
+pub text-whole : (t : NamedContext) (names : TableNames) (cs : List (Set × List ℕ)) → names ≡ named t
     → cs ≡ map (concept_at t.context) (intents t.context)
     → lines_text names cs ≡ concepts_text t (concepts t.context)
 text-whole t names cs is made = ap₂ lines_text is made ∙ text_whole t

@@ -4,7 +4,7 @@ ghost use Rattle.std.specs.Prelude.{◌≡◌, ◌+◌, ◌*◌, ◌≤◌, ◌+
 ghost use Rattle.fca_model.specs.Pseudo.{basis};
 ghost use Rattle.implication_closure.specs.Closing.{HaveWidth};
 ghost use Rattle.expert_wire.specs.Texts.{arrow_text, line_end};
-ghost use Rattle.report_texts.specs.Reports.{arrow_line, basis_text};
+ghost use Rattle.report_texts.specs.Reports.{implication_line, basis_text};
 
 use crate::attribute_names::AttributeNames;
 use crate::heads::count_line;
@@ -61,7 +61,7 @@ fn add_implication<const W: usize>(
     requires start { start ≤ length bytes.old.items }
     requires premise { length member.now.premise ≡ length names.now }
     requires conclusion { length member.now.conclusion ≡ length names.now }
-    ensures text { IfOk result (λ end. take end bytes.new.items ≡ take start bytes.old.items ++ arrow_line [] names.now place member.now) }
+    ensures text { IfOk result (λ end. take end bytes.new.items ≡ take start bytes.old.items ++ implication_line [] names.now place member.now) }
     ensures ends { IfOk result (λ end. end ≤ length bytes.new.items) }
 {
     let Some(number) = place.checked_add(1) else {

@@ -6,7 +6,7 @@ ghost use Rattle.report_texts.specs.Reports.{count_line, cover_line};
 ghost use Rattle.table_texts.specs.Numerals.{AreNumerals};
 
 use crate::heads::add_count_line;
-use crate::numerals::count_up_to;
+use crate::numerals::extend_numerals;
 use fca_model::Memory;
 use packed_concepts::{BLOCK_BYTES, TextBlock, make_room, put_block, put_bytes};
 use std::alloc::Global;
@@ -60,13 +60,13 @@ fn add_cover(
     ensures ends { IfOk result (λ end. end ≤ length bytes.new.items) }
     ensures numerals { AreNumerals numerals.new.items }
 {
-    count_over(numerals, upper.max(lower))?;
+    extend_numerals_over(numerals, upper.max(lower))?;
     make_room(bytes, start, LINE_ROOM)?;
     Ok(put_cover(bytes, start, numerals, upper, lower))
 }
 
 /// Makes the list long enough for the numeral of the place.
-fn count_over(numerals: &mut Vec<TextBlock>, place: usize) -> Result<(), Memory>
+fn extend_numerals_over(numerals: &mut Vec<TextBlock>, place: usize) -> Result<(), Memory>
     requires { AreNumerals numerals.old.items }
     ensures numerals { AreNumerals numerals.new.items }
     ensures inside { OnOk result (place < length numerals.new.items) }
@@ -77,7 +77,7 @@ fn count_over(numerals: &mut Vec<TextBlock>, place: usize) -> Result<(), Memory>
     let Some(len) = place.checked_add(1) else {
         return Err(Memory);
     };
-    count_up_to(numerals, len)
+    extend_numerals(numerals, len)
 }
 
 /// Puts the line of the cover at `start` and returns its end.

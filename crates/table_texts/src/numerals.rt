@@ -8,7 +8,7 @@ use itoa::Buffer;
 use packed_concepts::{BLOCK_BYTES, TextBlock, block_of};
 
 /// Makes the list at least so long.
-pub(crate) fn count_up_to(numerals: &mut Vec<TextBlock>, len: usize) -> Result<(), Memory>
+pub(crate) fn extend_numerals(numerals: &mut Vec<TextBlock>, len: usize) -> Result<(), Memory>
     requires { AreNumerals numerals.old.items }
     ensures numerals { AreNumerals numerals.new.items }
     ensures long { OnOk result (len ≤ length numerals.new.items) }

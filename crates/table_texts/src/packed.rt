@@ -13,7 +13,7 @@ ghost use Rattle.table_texts.specs.Tops.{IsTop, branches};
 use crate::filling::gather_tops;
 use crate::jobs::{branch_jobs, density_of};
 use crate::teams::gather_jobs;
-use crate::tops::{Top, large_part, pays, root_of, split_large};
+use crate::tops::{Top, least_large_bulk, pays, root_of, split_large};
 use concept_walk::{CrossTable, Gathering, table_names};
 use context_table::{NarrowRows, NarrowTable};
 use derivation::RowsOf;
@@ -125,7 +125,7 @@ fn many_pages<R: Threads + Sync, const W: usize>(
 {
     let _width = crosses.rows().width();
     let more = split_large(alloc, crosses, tops, 0)?;
-    let finer = split_large(alloc, crosses, &more, large_part(&more))?;
+    let finer = split_large(alloc, crosses, &more, least_large_bulk(&more))?;
     let jobs = branch_jobs(alloc, crosses, &finer, density_of(tops))?;
     let gatherings = gather_jobs(rt, alloc, crosses, &jobs)?;
     let pages = whole_pages(alloc, gatherings)?;

@@ -10,7 +10,7 @@ ghost use Rattle.table_texts.specs.Tops.{IsTop, branches};
 
 use attr_bits::Bits;
 use concept_walk::{Candidates, CrossTable, Node, WorkLists, known_witnesses, next_child};
-use extent_places::tries_of;
+use extent_places::attributes_to_try;
 use fca_model::Memory;
 use lectic_concepts::{own_witnesses, pass_witnesses};
 use std::alloc::Global;
@@ -62,7 +62,7 @@ impl<const W: usize> Top<W> {
 }
 
 /// The least bulk of a branch that is a large part of these.
-pub(crate) fn large_part<const W: usize>(tops: &[Top<W>]) -> usize {
+pub(crate) fn least_large_bulk<const W: usize>(tops: &[Top<W>]) -> usize {
     let mut whole = 0usize;
     for top in tops {
         whole = whole.saturating_add(top.bulk());
@@ -185,7 +185,7 @@ fn split_branch<const W: usize>(
     let rows = crosses.rows();
     let node = top.node(crosses);
     let mut candidates = Candidates {
-        tries: tries_of(rows, node.intent, node.places),
+        tries: attributes_to_try(rows, node.intent, node.places),
         end: rows.width(),
     };
     let alone = Node {

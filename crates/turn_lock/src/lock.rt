@@ -121,7 +121,7 @@ impl<V: Logged> TurnLock<V> {
             return Err(TurnFault::Spent);
         }
         let shared = &self.table.shared;
-        let reply = turn::play(shared, &self.queue, rt, helper, &mut pass.seat, event);
+        let reply = turn::run_turn(shared, &self.queue, rt, helper, &mut pass.seat, event);
         pass.made += 1;
         match reply {
             Ok(reply) => Ok(reply),
@@ -142,7 +142,7 @@ impl<V: Logged> TurnLock<V> {
         if pass.made == pass.turns {
             return Err(TurnFault::Spent);
         }
-        let seen = turn::look(&self.table.shared, &self.queue, rt, &mut pass.seat);
+        let seen = turn::see(&self.table.shared, &self.queue, rt, &mut pass.seat);
         pass.made += 1;
         Ok(seen)
     }

@@ -13,10 +13,10 @@ use std::time::Duration;
 const PLACES: usize = 64;
 
 /// How often a pass with a ticket looks before it sleeps.
-pub const LOOKS: u32 = 2048;
+pub const SPINS: u32 = 2048;
 
 /// How often a pass without a ticket looks before it naps. This takes less time than a turn, so the holder may have the next turns too.
-pub const QUIET_LOOKS: u32 = 64;
+pub const QUIET_SPINS: u32 = 64;
 
 /// The most naps of a pass before it draws a ticket behind others.
 pub const NAPS: u32 = 16;

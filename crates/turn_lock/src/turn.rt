@@ -10,7 +10,7 @@ ghost use Rattle.turn_lock.specs.Steps.{Drew, Came, HasTurn, MayEnd, ended_view}
 
 use crate::applies::Applies;
 use crate::logged::Logged;
-use crate::queue::{LOOKS, NAPS, QUIET_LOOKS, Queue, nap};
+use crate::queue::{NAPS, QUIET_SPINS, Queue, SPINS, nap};
 use crate::rule::{Coming, Drawing, Key, TurnEnd, TurnRule};
 use crate::view::View;
 use atomic_table::{Seat, Shared};
@@ -24,7 +24,7 @@ use std::time::Duration;
 fn is_quiet<V: Logged>(shared: &Shared<V, View<V::Base, V::Entry>, Key<V>, TurnRule<V>>) -> bool
     requires { shared.now.table_id.words ≡ 2 }
 {
-    for _ in 0..QUIET_LOOKS {
+    for _ in 0..QUIET_SPINS {
         if shared.peek(0) == shared.peek(1) {
             return true;
         }
@@ -113,7 +113,7 @@ fn wait<V: Logged, R: Wait>(
             return;
         }
         let turns = ticket.abs_diff(shared.peek(1));
-        if turns <= 1 && looks < LOOKS {
+        if turns <= 1 && looks < SPINS {
             looks += 1;
             hint::spin_loop();
         } else {
@@ -144,7 +144,7 @@ fn end<V: Logged>(
 }
 
 /// One turn with this event, by a pass that has a turn left.
-pub fn play<V: Logged, A: Applies<V>, R: Wait>(
+pub fn run_turn<V: Logged, A: Applies<V>, R: Wait>(
     shared: &Shared<V, View<V::Base, V::Entry>, Key<V>, TurnRule<V>>,
     queue: &Queue,
     rt: &R,
@@ -172,7 +172,7 @@ pub fn play<V: Logged, A: Applies<V>, R: Wait>(
 }
 
 /// One turn that only looks.
-pub fn look<V: Logged, R: Wait>(
+pub fn see<V: Logged, R: Wait>(
     shared: &Shared<V, View<V::Base, V::Entry>, Key<V>, TurnRule<V>>,
     queue: &Queue,
     rt: &R,

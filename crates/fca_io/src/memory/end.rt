@@ -105,7 +105,7 @@ impl Sink for MemoryEnd {
 
     ghost whole_writes = { λ e. Some e.outgoing.whole_writes };
 
-    ghost asked_beside = { λ e. record { reads = Some e.incoming.plan.made; faults = e.incoming.plan.faults } };
+    ghost read_counts_beside = { λ e. record { reads = Some e.incoming.plan.made; faults = e.incoming.plan.faults } };
 
     fn write(&mut self, from: &[u8]) -> Result<usize, Failed>
         requires { 0 < length from.now }

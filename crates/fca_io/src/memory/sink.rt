@@ -3,7 +3,7 @@
 ghost use Rattle.std.specs.Prelude.{◌≡◌, ◌≤◌, ◌<◌, ◌-◌, ◌↔◌, ◌⊎◌, [], false, length, min, Some, Result, IfOk, IsErr, IsTrue, OnOk, OnErr};
 ghost use Rattle.std.specs.Io.KnownBytes.{WriteAppends, Keeps};
 ghost use Rattle.fca_io.specs.Faults.{Rose, counts_whole};
-ghost use Rattle.fca_io.specs.Forms.{plan_of, fails_next, after_call, with_fault, Roomy};
+ghost use Rattle.fca_io.specs.Forms.{plan_of, fails_next, after_call, with_fault, BoundedSink};
 
 use super::plan::{FailingCalls, one_more};
 use crate::outside::{Failed, Sink};
@@ -26,9 +26,9 @@ pub struct MemorySink {
 
 impl Model for MemorySink {
     ghost use Rattle.std.specs.Prelude.{◌<◌, ◌≤◌, ◌^◌, vec_len, vec_capacity};
-    ghost use Rattle.fca_io.specs.Forms.{Roomy};
+    ghost use Rattle.fca_io.specs.Forms.{BoundedSink};
 
-    ghost Value = { Roomy };
+    ghost Value = { BoundedSink };
 
     ghost view = { λ s. record { bytes = s.bytes.items; most = s.most; room = s.room; whole_writes = s.whole_writes; plan = s.calls } };
 
@@ -75,7 +75,7 @@ impl Sink for MemorySink {
 
     ghost whole_writes = { λ s. Some s.whole_writes };
 
-    ghost asked_beside = { λ _. record { reads = None; faults = 0 } };
+    ghost read_counts_beside = { λ _. record { reads = None; faults = 0 } };
 
     fn write(&mut self, from: &[u8]) -> Result<usize, Failed>
         requires { 0 < length from.now }

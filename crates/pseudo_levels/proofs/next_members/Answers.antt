@@ -7,4 +7,4 @@ returns-clause-opened g c below leads =
     let found = c.args.found.now.members in
     let answers = c.deref-3.ensures.value ∙ c.in_ok-answers.ensures
     ∙ ap (map (judged [] c.args.rows.now found)) (c.deref.ensures.value ∙ sym c.deref-2.ensures.value) in
-    c.open_level.ensures.opened c.args.rows.now (sym c.requires.width) below leads answers
+    c.settle_level.ensures.opened c.args.rows.now (sym c.requires.width) below leads answers

@@ -2,7 +2,7 @@ use Rattle.std.proofs.Common.{◌≤◌, length, map, sym, ap₂, ◌∙◌, sub
 use Rattle.std.specs.List.{list_all}
 use Rattle.std.proofs.lemmas.List.Folds.{list_all-map}
 use Rattle.fca_model.specs.Tables.{NamedContext}
-use Rattle.expert_wire.specs.Words.{is_name}
+use Rattle.expert_wire.specs.Patterns.{is_name}
 use Rattle.expert_scripts.proofs.TranscriptLemmas.{are_names}
 use Rattle.oracle_expert.specs.Oracles.{Conflicts, Recall}
 use Rattle.basis_report.specs.Comments.{AreComments}

@@ -1,6 +1,6 @@
 use Rattle.std.proofs.Common.{◌≡◌, drop}
 use Rattle.std.specs.List.{list_all}
-use Rattle.expert_wire.specs.Words.{is_name}
+use Rattle.expert_wire.specs.Patterns.{is_name}
 use Rattle.basis_report.proofs.names.look_at_oracles.Given as goal
 
 abbrev pub invariant-loop-oracle : goal.invariant-loop-oracle

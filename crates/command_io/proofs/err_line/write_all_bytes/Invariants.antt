@@ -7,5 +7,5 @@ use Rattle.command_io.proofs.err_line.write_all_bytes.Given as goal
 abbrev pub invariant-loop-part : goal.invariant-loop-part
 invariant-loop-part g l =
     Underway (g.E.Sink.held l.fn.err) (g.E.Sink.held l.err) (g.E.Sink.faults l.fn.err) (g.E.Sink.faults l.err)
-    (g.E.Sink.beside l.fn.err) (g.E.Sink.beside l.err) (g.E.Sink.asked_beside l.fn.err) (g.E.Sink.asked_beside l.err)
+    (g.E.Sink.beside l.fn.err) (g.E.Sink.beside l.err) (g.E.Sink.read_counts_beside l.fn.err) (g.E.Sink.read_counts_beside l.err)
     (flat_map (λ part. part.now) l.parts) (flat_map (λ part. part.now) (drop l.part-index l.parts))

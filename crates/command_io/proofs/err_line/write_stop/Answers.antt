@@ -57,9 +57,9 @@ returns-in-OtherAttributes g c = Writes-equal (ap
     (λ (name : Text). placed_line name (Whole, ATTRIBUTES_DIFFER.now)) c.name_of-in-OtherAttributes.ensures
     ∙ ap (stop_line c.args.file.now) (sym c.in-OtherAttributes.is)) c.write_whole-in-OtherAttributes.ensures
 
-pub returns-in-Fault : goal.returns-in-Fault
-returns-in-Fault g c = Writes-equal (ap (λ (name : Text). placed_line name (Whole, READ_FAULT.now)) c.name_of-in-Fault.ensures
-    ∙ ap (stop_line c.args.file.now) (sym c.in-Fault.is)) c.write_whole-in-Fault.ensures
+pub returns-in-ReadFault : goal.returns-in-ReadFault
+returns-in-ReadFault g c = Writes-equal (ap (λ (name : Text). placed_line name (Whole, READ_FAULT.now)) c.name_of-in-ReadFault.ensures
+    ∙ ap (stop_line c.args.file.now) (sym c.in-ReadFault.is)) c.write_whole-in-ReadFault.ensures
 
 pub returns-in-Listener : goal.returns-in-Listener
 returns-in-Listener g c = Writes-equal (ap (stop_line c.args.file.now) (sym c.in-Listener.is)) c.write_plain-in-Listener.ensures

@@ -1,5 +1,5 @@
 use Rattle.lectic_concepts.specs.Branches.{branch}
-use Rattle.concept_walk.specs.Steps.{room_left}
+use Rattle.concept_walk.specs.Steps.{steps_left}
 use Rattle.concept_walk.proofs.StepLemmas.{IsWalk}
 use Rattle.concept_walk.proofs.branch.gather_branch.Given as goal
 
@@ -7,4 +7,4 @@ abbrev pub invariant-loop-step : goal.invariant-loop-step
 invariant-loop-step g l = IsWalk l.crosses (branch l.crosses l.node.intent.now l.node.from) l.fn.gathering l.gathering l.steps.items
 
 abbrev pub decreases-loop-step : goal.decreases-loop-step
-decreases-loop-step g l = room_left l.crosses.width l.steps.items
+decreases-loop-step g l = steps_left l.crosses.width l.steps.items

@@ -8,7 +8,7 @@ use Rattle.lectic_concepts.proofs.BranchLemmas.{branch_end}
 use Rattle.lectic_concepts.proofs.WitnessLemmas.{seen_none}
 use Rattle.concept_walk.specs.Gatherings.{Fills}
 use Rattle.extent_places.specs.Few.{AreFew}
-use Rattle.extent_places.specs.Tries.{AreTries}
+use Rattle.extent_places.specs.Tries.{AreAttributesToTry}
 use Rattle.extent_places.specs.declared.few.SmallConcept.{SmallConcept}
 use Rattle.concept_walk.proofs.LineLemmas.{Fills-append}
 use Rattle.extent_places.proofs.TryLemmas.{branch-between, branch-behind}
@@ -39,8 +39,8 @@ add-requires g t c = (
   ),
 )
 
-pub tries_of-tries-requires : goal.tries_of-tries-requires
-tries_of-tries-requires g t c = (
+pub attributes_to_try-tries-requires : goal.attributes_to_try-tries-requires
+attributes_to_try-tries-requires g t c = (
   omega arith,
   (
     omega (arith, c.width-end.ensures.words),
@@ -72,8 +72,8 @@ loop-i-preserved-then-not-is_to_try g t c =
     let last = c.in-Some.ensures in
     let same : branch K A c.in-Some.i ≡ branch K A (c.in-Some.i + 1) =
     subst (λ (J : Context). branch J A c.in-Some.i ≡ branch J A (c.in-Some.i + 1)) c.rows-rows.ensures c.if-not-is_to_try.ensures in
-    let behind = branch-behind K c.rows-rows.result.now A c.tries_of-tries.result c.in-Some.i c.loop-i.end c.rows-rows.ensures
-    c.tries_of-tries.ensures.tries last.1 c.loop-i.invariant.inside last.2 in
+    let behind = branch-behind K c.rows-rows.result.now A c.attributes_to_try-tries.result c.in-Some.i c.loop-i.end c.rows-rows.ensures
+    c.attributes_to_try-tries.ensures.tries last.1 c.loop-i.invariant.inside last.2 in
     record {
       from_on = last.0;
       inside = omega (arith, last.1, c.loop-i.invariant.inside);
@@ -91,8 +91,8 @@ loop-i-preserved-in_default-met g t c =
     subst (λ (o : Option (SmallConcept g.row.W)). MatchOption o (branch K A i ≡ branch K A (i + 1))
     (λ child. branch K A i ≡ branch K A (i + 1) ++ branch K child.intent (i + 1)))
     c.in_default-met.is c.in_ok-met.ensures.splits in
-    let behind = branch-behind K c.rows-rows.result.now A c.tries_of-tries.result i c.loop-i.end c.rows-rows.ensures
-    c.tries_of-tries.ensures.tries last.1 c.loop-i.invariant.inside last.2 in
+    let behind = branch-behind K c.rows-rows.result.now A c.attributes_to_try-tries.result i c.loop-i.end c.rows-rows.ensures
+    c.attributes_to_try-tries.ensures.tries last.1 c.loop-i.invariant.inside last.2 in
     record {
       from_on = last.0;
       inside = omega (arith, last.1, c.loop-i.invariant.inside);
@@ -112,7 +112,7 @@ loop-i-preserved g t c =
     (λ child. branch K A i ≡ branch K A (i + 1) ++ branch K child.intent (i + 1)))
     c.in-Some-met.is c.in_ok-met.ensures.splits in
     let behind : branch K A (i + 1) ≡ branch K A c.loop-i.end =
-    branch-behind K c.rows-rows.result.now A c.tries_of-tries.result i c.loop-i.end c.rows-rows.ensures c.tries_of-tries.ensures.tries
+    branch-behind K c.rows-rows.result.now A c.attributes_to_try-tries.result i c.loop-i.end c.rows-rows.ensures c.attributes_to_try-tries.ensures.tries
     last.1 c.loop-i.invariant.inside last.2 in
     record {
       from_on = last.0;
@@ -128,7 +128,7 @@ pub returns : goal.returns
 returns g t c =
     let K : Context = c.args.crosses.now in
     let A : Set = c.args.node.now.intent.now in
-    let tries = subst (λ (J : Context). AreTries J A c.tries_of-tries.result) c.rows-rows.ensures c.tries_of-tries.ensures.tries in
+    let tries = subst (λ (J : Context). AreAttributesToTry J A c.attributes_to_try-tries.result) c.rows-rows.ensures c.attributes_to_try-tries.ensures.tries in
     subst (Fills c.args.crosses.now c.args.gathering.now c.loop-i.gathering)
-    (sym (branch-between K A c.tries_of-tries.result c.args.node.now.from c.loop-i.end tries c.loop-i.invariant.from_on
+    (sym (branch-between K A c.attributes_to_try-tries.result c.args.node.now.from c.loop-i.end tries c.loop-i.invariant.from_on
     c.loop-i.invariant.inside c.in_default.ensures)) c.loop-i.invariant.filled

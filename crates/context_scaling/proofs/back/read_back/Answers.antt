@@ -2,7 +2,7 @@ use Rattle.std.proofs.Common.{◌≡◌, ◌∙◌, ◌++◌, suc, drop, sym, ap
 use Rattle.fca_model.specs.Sets.{Set}
 use Rattle.value_tables.specs.Values.{object_at, value_at}
 use Rattle.context_scaling.specs.Scaling.{scale_row, object_row}
-use Rattle.context_scaling.specs.Back.{GivesBack, back_by, begin_of, scaling_at}
+use Rattle.context_scaling.specs.Back.{GivesBack, back_by, begin_of, plan_record_at}
 use Rattle.context_scaling.specs.declared.back.Back.{Back}
 use Rattle.context_scaling.proofs.BackLemmas.{row_from}
 use Rattle.context_scaling.proofs.BackLaw.{gives_back, stands_once}
@@ -12,7 +12,7 @@ pub returns-clause-value : goal.returns-clause-value
 returns-clause-value c = λ t g fits row_is.
     let plan = c.args.plan.now in
     let k = c.args.k in
-    let s = scaling_at plan k in
+    let s = plan_record_at plan k in
     let text = value_at s.place (object_at t g) in
     let rest = object_row (drop (suc k) plan) (object_at t g) in
     let marks : drop (begin_of plan k) c.args.row.now ≡ scale_row s text ++ rest = ap (drop (begin_of plan k)) row_is

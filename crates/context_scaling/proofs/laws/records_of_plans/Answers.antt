@@ -7,11 +7,11 @@ use Rattle.csv_context.specs.Records.{csv_records}
 use Rattle.value_tables.specs.Values.{ValueTable}
 use Rattle.context_scaling.specs.PlanForm.{plan_form}
 use Rattle.context_scaling.specs.Refusals.{MakePlan}
-use Rattle.context_scaling.specs.Scaling.{Scaling}
+use Rattle.context_scaling.specs.Scaling.{PlanRecord}
 use Rattle.context_scaling.proofs.PlanLaw.{plan-made}
 use Rattle.context_scaling.proofs.laws.records_of_plans.Goals as goal
 
-records-made : (t : ValueTable) (bytes : List ℕ) (plan : List Scaling) → EachName t.attributes → IsUtf8 bytes
+records-made : (t : ValueTable) (bytes : List ℕ) (plan : List PlanRecord) → EachName t.attributes → IsUtf8 bytes
     → (plan_form t bytes ≡ Ok plan) ↔ MakePlan t (csv_records bytes) plan
 unfolding plan_form
 records-made t bytes plan named text =

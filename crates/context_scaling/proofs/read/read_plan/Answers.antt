@@ -2,7 +2,7 @@ use Rattle.std.proofs.Common.{[], ◌≡◌, ◌∙◌, ◌<◌, ◌==◌, ℕ, 
 use Rattle.std.proofs.lemmas.Bool.{ne_eqb}
 use Rattle.std.specs.Str.Lossy.{utf8_valid_len}
 use Rattle.std.proofs.lemmas.Str.{utf8_valid_len-IsUtf8}
-use Rattle.context_scaling.specs.Scaling.{Scaling}
+use Rattle.context_scaling.specs.Scaling.{PlanRecord}
 use Rattle.csv_context.specs.Records.{csv_records}
 use Rattle.text_pieces.specs.Telling.{Tells}
 use Rattle.context_scaling.specs.PlanForm.{records_form, plan_form}
@@ -26,5 +26,5 @@ returns-in-Err-clause-form c =
     let short : utf8_valid_len c.args.bytes.now < length c.args.bytes.now = let P : ℕ → Type 0 = λ n. n < length c.args.bytes.now in
     subst P at c.in-Err.ensures.cases.1.short in
     let broken : utf8_valid_len c.args.bytes.now == length c.args.bytes.now ≡ false = ne_eqb _ _ (omega arith) in
-    let told : ℕ → Result (List Scaling) PlanFault = λ n. Err (fault.NotUtf8 n) in
+    let told : ℕ → Result (List PlanRecord) PlanFault = λ n. Err (fault.NotUtf8 n) in
     inr (rw broken (ap told (sym at ∙ sym c.valid_up_to.ensures)))

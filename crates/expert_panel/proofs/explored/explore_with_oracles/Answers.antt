@@ -51,8 +51,8 @@ run_oracles-requires-clause-oracles g c κs within =
     let all = c.requires.experts in
     omega arith
 
-pub run_oracles-requires-clause-untold : goal.run_oracles-requires-clause-untold
-run_oracles-requires-clause-untold g c κs within =
+pub run_oracles-requires-clause-no_row_dropped : goal.run_oracles-requires-clause-no_row_dropped
+run_oracles-requires-clause-no_row_dropped g c κs within =
     subst (All (λ (r : Recall). r.conflicts ≡ no_conflict r.table)) (sym c.in_ok-oracles.ensures.untold) (untold_free c.args.experts.items)
 
 pub run_oracles-requires-clause-width : goal.run_oracles-requires-clause-width

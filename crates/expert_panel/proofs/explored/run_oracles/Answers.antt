@@ -55,7 +55,7 @@ returns g c =
     written_back c.in_ok-seats.seats.len news (drop (length news) c.in_ok-seats.seats.items) len in
     ended c.args.gate c.args.passes.items c.args.oracles.items c.as_mut_slice.result.now news c.close.result
     (subst (HasClosed c.args.gate.base c.close.result.journal) (c.in_ok-passes.ensures.passes ∙ ap passes back) c.close.ensures.entries)
-    c.requires.some c.requires.passes c.requires.fresh count c.requires.untold
+    c.requires.some c.requires.passes c.requires.fresh count c.requires.no_row_dropped
     (ap passes c.as_mut_slice.ensures.value ∙ c.in_ok-seats.ensures.passes)
     (ap experts c.as_mut_slice.ensures.value ∙ c.in_ok-seats.ensures.experts) c.run_panel.ensures
     (sym (c.any_out_of_memory.ensures ∙ ap (list_any (λ (seat : Seat Recall). is_out_of_memory seat.ended)) (c.deref.ensures.value ∙ back))

@@ -19,7 +19,7 @@ returns-in-Ok-Draw-clause-answered g c =
     let form : request_form c.args.line.now c.width.result ≡ Ok DrawAsked = c.in-Ok-Draw.ensures.ok ∙ ap Ok c.in-Ok-Draw.field-0-is in
     let told : request_form c.args.line.now c.args.table.now.context.width ≡ Ok DrawAsked = ap (request_form c.args.line.now) (sym wide)
     ∙ form in
-    rw c.outcome.ensures (turn-answered e (request_form c.args.line.now c.args.table.now.context.width) event
+    rw c.said_of.ensures (turn-answered e (request_form c.args.line.now c.args.table.now.context.width) event
     (desk_count_of (g.D.Desk.state c.args.desk.now))
     (desk_count_of (g.D.Desk.state c.draw.new.self))
     (subst (λ f. Asks e f event) (sym told) refl) c.draw.ensures.turn.left c.draw.result c.draw.ensures.turn.entry c.draw.ensures.turn.err
@@ -34,7 +34,7 @@ returns-in-Ok-Confirm-clause-answered g c =
     ∙ ap Ok c.in-Ok-Confirm.field-0-is in
     let told : request_form c.args.line.now c.args.table.now.context.width ≡ Ok ConfirmAsked = ap (request_form c.args.line.now) (sym wide)
     ∙ form in
-    rw c.outcome-in-Ok-Confirm.ensures (turn-answered e (request_form c.args.line.now c.args.table.now.context.width) event
+    rw c.said_of-in-Ok-Confirm.ensures (turn-answered e (request_form c.args.line.now c.args.table.now.context.width) event
     (desk_count_of (g.D.Desk.state c.args.desk.now))
     (desk_count_of (g.D.Desk.state c.confirm.new.self))
     (subst (λ f. Asks e f event) (sym told) refl) c.confirm.ensures.turn.left c.confirm.result c.confirm.ensures.turn.entry
@@ -49,7 +49,7 @@ returns-in-Ok-Row-clause-answered g c =
     ∙ ap Ok c.in-Ok-Row.field-0-is in
     let told : request_form c.args.line.now c.args.table.now.context.width ≡ Ok (RowAsked c.in-Ok-Row.name c.in-Ok-Row.row) =
     ap (request_form c.args.line.now) (sym wide) ∙ form in
-    rw c.outcome-in-Ok-Row.ensures (turn-answered e (request_form c.args.line.now c.args.table.now.context.width) event
+    rw c.said_of-in-Ok-Row.ensures (turn-answered e (request_form c.args.line.now c.args.table.now.context.width) event
     (desk_count_of (g.D.Desk.state c.args.desk.now))
     (desk_count_of (g.D.Desk.state c.row.new.self))
     (subst (λ f. Asks e f event) (sym told) refl) c.row.ensures.turn.left c.row.result c.row.ensures.turn.entry c.row.ensures.turn.err
@@ -63,7 +63,7 @@ returns-in-Ok-Leave-clause-answered g c =
     let form : request_form c.args.line.now c.width.result ≡ Ok LeaveAsked = c.in-Ok-Leave.ensures.ok ∙ ap Ok c.in-Ok-Leave.field-0-is in
     let told : request_form c.args.line.now c.args.table.now.context.width ≡ Ok LeaveAsked = ap (request_form c.args.line.now) (sym wide)
     ∙ form in
-    rw c.outcome-in-Ok-Leave.ensures (turn-answered e (request_form c.args.line.now c.args.table.now.context.width) event
+    rw c.said_of-in-Ok-Leave.ensures (turn-answered e (request_form c.args.line.now c.args.table.now.context.width) event
     (desk_count_of (g.D.Desk.state c.args.desk.now))
     (desk_count_of (g.D.Desk.state c.leave.new.self))
     (subst (λ f. Asks e f event) (sym told) refl) c.leave.ensures.turn.left c.leave.result c.leave.ensures.turn.entry
@@ -87,7 +87,7 @@ returns-in-Ok-Draw-clause-spent g c =
     let form : request_form c.args.line.now c.width.result ≡ Ok DrawAsked = c.in-Ok-Draw.ensures.ok ∙ ap Ok c.in-Ok-Draw.field-0-is in
     let told : request_form c.args.line.now c.args.table.now.context.width ≡ Ok DrawAsked = ap (request_form c.args.line.now) (sym wide)
     ∙ form in
-    rw c.outcome.ensures (turn-refused e (request_form c.args.line.now c.args.table.now.context.width) event
+    rw c.said_of.ensures (turn-refused e (request_form c.args.line.now c.args.table.now.context.width) event
     (desk_count_of (g.D.Desk.state c.args.desk.now)) (desk_count_of (g.D.Desk.state c.draw.new.self))
     (subst (λ f. Asks e f event) (sym told) refl) c.draw.ensures.turn.left c.draw.result c.draw.ensures.turn.err c.draw.ensures.turn.spent)
 
@@ -106,7 +106,7 @@ returns-in-Ok-Confirm-clause-spent g c =
     ∙ ap Ok c.in-Ok-Confirm.field-0-is in
     let told : request_form c.args.line.now c.args.table.now.context.width ≡ Ok ConfirmAsked = ap (request_form c.args.line.now) (sym wide)
     ∙ form in
-    rw c.outcome-in-Ok-Confirm.ensures (turn-refused e (request_form c.args.line.now c.args.table.now.context.width) event
+    rw c.said_of-in-Ok-Confirm.ensures (turn-refused e (request_form c.args.line.now c.args.table.now.context.width) event
     (desk_count_of (g.D.Desk.state c.args.desk.now)) (desk_count_of (g.D.Desk.state c.confirm.new.self))
     (subst (λ f. Asks e f event) (sym told) refl) c.confirm.ensures.turn.left c.confirm.result c.confirm.ensures.turn.err
     c.confirm.ensures.turn.spent)
@@ -126,7 +126,7 @@ returns-in-Ok-Row-clause-spent g c =
     ∙ ap Ok c.in-Ok-Row.field-0-is in
     let told : request_form c.args.line.now c.args.table.now.context.width ≡ Ok (RowAsked c.in-Ok-Row.name c.in-Ok-Row.row) =
     ap (request_form c.args.line.now) (sym wide) ∙ form in
-    rw c.outcome-in-Ok-Row.ensures (turn-refused e (request_form c.args.line.now c.args.table.now.context.width) event
+    rw c.said_of-in-Ok-Row.ensures (turn-refused e (request_form c.args.line.now c.args.table.now.context.width) event
     (desk_count_of (g.D.Desk.state c.args.desk.now)) (desk_count_of (g.D.Desk.state c.row.new.self))
     (subst (λ f. Asks e f event) (sym told) refl) c.row.ensures.turn.left c.row.result c.row.ensures.turn.err c.row.ensures.turn.spent)
 
@@ -144,7 +144,7 @@ returns-in-Ok-Leave-clause-spent g c =
     let form : request_form c.args.line.now c.width.result ≡ Ok LeaveAsked = c.in-Ok-Leave.ensures.ok ∙ ap Ok c.in-Ok-Leave.field-0-is in
     let told : request_form c.args.line.now c.args.table.now.context.width ≡ Ok LeaveAsked = ap (request_form c.args.line.now) (sym wide)
     ∙ form in
-    rw c.outcome-in-Ok-Leave.ensures (turn-refused e (request_form c.args.line.now c.args.table.now.context.width) event
+    rw c.said_of-in-Ok-Leave.ensures (turn-refused e (request_form c.args.line.now c.args.table.now.context.width) event
     (desk_count_of (g.D.Desk.state c.args.desk.now)) (desk_count_of (g.D.Desk.state c.leave.new.self))
     (subst (λ f. Asks e f event) (sym told) refl) c.leave.ensures.turn.left c.leave.result c.leave.ensures.turn.err
     c.leave.ensures.turn.spent)

@@ -8,7 +8,7 @@ use Rattle.fca_command.proofs.flags.serving_of.Goals as goal
 pub returns-in-len2-up-clause-serving : goal.returns-in-len2-up-clause-serving
 returns-in-len2-up-clause-serving c =
     let words = c.args.words.now in
-    let named : bytes_eq c.flag-item.result (codes "--experts") ≡ true = sym c.is_experts.ensures ∙ c.if-is_experts.true in
+    let named : bytes_eq c.flag-item.result (codes "--experts") ≡ true = sym c.is_experts_flag.ensures ∙ c.if-is_experts_flag.true in
     let counted : c.expert_count.result ≡ expert_count c.experts-item.result = c.expert_count.ensures.count
     ∙ ap expert_count c.bytes.ensures in
     c.serving_for.ensures.serving

@@ -14,7 +14,7 @@ invariant-loop-rest g l = record {
   at_once : l.text ≢ [] → l.rest ≡ [] → g.K.Sink.whole_writes l.sink ≡ option_map one_more (g.K.Sink.whole_writes l.initial.sink);
   settled : Settled (g.K.Sink.faults l.initial.sink) (g.K.Sink.faults l.sink)
       (g.K.Sink.beside l.initial.sink) (g.K.Sink.beside l.sink)
-      (g.K.Sink.asked_beside l.initial.sink) (g.K.Sink.asked_beside l.sink);
+      (g.K.Sink.read_counts_beside l.initial.sink) (g.K.Sink.read_counts_beside l.sink);
 }
 
 abbrev pub decreases-loop-rest : goal.decreases-loop-rest

@@ -45,15 +45,15 @@ returns-else-waits_for_nobody g c =
     let command : Command = c.in-Ok-Some.command in
     let waits : waits_for_nobody command ≡ false = sym c.waits_for_nobody.ensures ∙ c.if-waits_for_nobody.false in
     let Ran : Option Command → Type 0 = λ call. HasRun end_sides call (outside s input link) (outside s' input link')
-    (moment g.K.Sink.held g.K.Sink.faults c.args.out.now) (moment g.K.Sink.held g.K.Sink.faults c.finish.new.out)
-    (moment g.E.Sink.held g.E.Sink.faults c.args.err.now) (moment g.E.Sink.held g.E.Sink.faults c.finish.new.err) c.finish.result in
+    (moment g.K.Sink.held g.K.Sink.faults c.args.out.now) (moment g.K.Sink.held g.K.Sink.faults c.conclude_command.new.out)
+    (moment g.E.Sink.held g.E.Sink.faults c.args.err.now) (moment g.E.Sink.held g.E.Sink.faults c.conclude_command.new.err) c.finish.result in
     let output = c.waiting_output-output.result in
     record {
       ran = subst Ran (sym c.in-Ok-Some.field-0-is ∙ c.in-Ok-Some.ensures.command)
           (record {
             output = output;
             comes = unread-input end_sides s s' input link link' output command waits c.waiting_output-output.ensures;
-            concluded = c.finish.ensures;
+            concluded = c.conclude_command.ensures;
           });
     }
 

@@ -21,6 +21,6 @@ returns g c =
             output.ensures.cause output.ensures.refused output.ensures.read_to_end (λ kept. ap same (output.ensures.input_kept kept))
             (IfErr-weaker output.result _ _ (λ stop kept. λ file. ap same (kept file)) output.ensures.unread) output.ensures.quiet
             output.ensures.quiet_input output.ensures.few;
-        concluded = c.finish.ensures;
+        concluded = c.conclude_command.ensures;
       };
     }

@@ -39,7 +39,7 @@ closure_among-closed-requires g c =
           c.requires.trying.inside,
           (
             below_wide c.requires.trying lacks c.with-reached.ensures c.in_ok-close.ensures.moved closed,
-            below_extent c.requires.trying lacks c.with-reached.ensures c.in_ok-close.ensures.moved closed c.args.lists.now.near c.requires.near,
+            below_extent c.requires.trying lacks c.with-reached.ensures c.in_ok-close.ensures.moved closed c.args.lists.now.extent c.requires.extent,
           ),
         ),
       ),
@@ -82,12 +82,12 @@ returns-in-None-clause-kept g c =
 pub returns-in-Some-clause-below : goal.returns-in-Some-clause-below
 returns-in-Some-clause-below g c = rw c.in-Some.is at c.in_ok-child.ensures.below
 
-pub returns-in-Some-clause-near : goal.returns-in-Some-clause-near
-returns-in-Some-clause-near g c =
+pub returns-in-Some-clause-extent : goal.returns-in-Some-clause-extent
+returns-in-Some-clause-extent g c =
     let closed = c.in_ok-close.ensures.closure c.if-not-branch.false in
     let lacks = c.requires.lacks in
-    told_extent c.args.indexed.now c.close.new.reached c.args.i c.args.lists.now.near (Some c.in-Some.intent)
-    (below_extent c.requires.trying lacks c.with-reached.ensures c.in_ok-close.ensures.moved closed c.args.lists.now.near c.requires.near)
+    told_extent c.args.indexed.now c.close.new.reached c.args.i c.args.lists.now.extent (Some c.in-Some.intent)
+    (below_extent c.requires.trying lacks c.with-reached.ensures c.in_ok-close.ensures.moved closed c.args.lists.now.extent c.requires.extent)
     (rw c.in-Some.is at c.in_ok-child.ensures.larger) (rw c.in-Some.is at c.in_ok-child.ensures.shared)
 
 pub returns-in-Some-clause-done : goal.returns-in-Some-clause-done

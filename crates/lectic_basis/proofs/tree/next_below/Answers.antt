@@ -19,7 +19,7 @@ returns-in-Some g c =
       intent = refl;
       from = refl;
       end = refl;
-      near = subst (IsExtent c.args.indexed.now old.intent) (sym c.in_ok-child.ensures.same) c.requires.near;
+      extent = subst (IsExtent c.args.indexed.now old.intent) (sym c.in_ok-child.ensures.same) c.requires.extent;
       forced = c.in_ok-child.ensures.kept;
     } in
     tried_told {old = old} {new = new} further (rw c.in-Some.is at c.in_ok-child.ensures.below)

@@ -12,7 +12,7 @@ visit_below-requires g c =
         omega arith,
         (
           omega (arith, c.width-width.ensures.words),
-          step_first c.in_ok-first-in-Some.first (rw (first.intent, first.from) below) first.end (rw first.intent first.near)
+          step_first c.in_ok-first-in-Some.first (rw (first.intent, first.from) below) first.end (rw first.intent first.extent)
               (rw first.intent first.forced),
         ),
       ),

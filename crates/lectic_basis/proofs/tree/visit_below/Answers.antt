@@ -58,7 +58,7 @@ next_below-requires g c =
           omega (arith, c.width-width.ensures.words),
           (
             walk_trying S K Wanted c.pop.new.self.items c.in-Some.step c.loop-step.found walk last,
-            (walk_lacks S K Wanted c.pop.new.self.items c.in-Some.step c.loop-step.found walk last, (s.near, s.forced)),
+            (walk_lacks S K Wanted c.pop.new.self.items c.in-Some.step c.loop-step.found walk last, (s.extent, s.forced)),
           ),
         ),
       ),

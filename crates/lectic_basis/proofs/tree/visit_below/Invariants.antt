@@ -1,4 +1,4 @@
-use Rattle.lectic_basis.specs.Steps.{room_left}
+use Rattle.lectic_basis.specs.Steps.{steps_left}
 use Rattle.lectic_basis.specs.Walks.{HasFound, IsPart}
 use Rattle.lectic_basis.proofs.StepLemmas.{IsWalk}
 use Rattle.lectic_basis.proofs.tree.visit_below.Given as goal
@@ -8,4 +8,4 @@ invariant-loop-step g l = IsWalk l.known.members l.indexed
     (HasFound l.known.members l.indexed l.fn.first.intent l.fn.first.from (IsPart l.fn.first.intent) l.fn.found) l.steps.items l.found
 
 abbrev pub decreases-loop-step : goal.decreases-loop-step
-decreases-loop-step g l = room_left l.indexed.width l.steps.items
+decreases-loop-step g l = steps_left l.indexed.width l.steps.items

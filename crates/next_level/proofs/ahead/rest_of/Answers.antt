@@ -8,7 +8,7 @@ use Rattle.next_level.proofs.ahead.rest_of.Goals as goal
 pub premises_of-requires : goal.premises_of-requires
 premises_of-requires g c =
     let even = subst (λ xs. HaveWidth c.args.width xs) (sym (c.deref.ensures.value ∙ c.in_ok-rest.ensures))
-    (list_all-filter_kept (has_width c.args.width) (λ i. ltb c.args.count (size i.premise)) c.args.members.now c.requires.even) in
+    (list_all-filter_kept (has_width c.args.width) (λ i. ltb c.args.premise_size (size i.premise)) c.args.members.now c.requires.even) in
     (omega (arith, c.requires.words), (c.requires.words, (c.requires.narrow, even)))
 
 pub returns-clause-rest : goal.returns-clause-rest

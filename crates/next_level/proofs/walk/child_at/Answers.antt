@@ -36,8 +36,8 @@ returns-then-size-seen-clause-done g c =
     (enter_larger (left_entered c.requires.trying lacks c.with-reached.ensures c.in_ok-close.ensures.moved closed)
     (omega (arith, c.size.ensures.size, c.if-size-seen.true)))
 
-pub closure_near-closed-requires : goal.closure_near-closed-requires
-closure_near-closed-requires g c =
+pub closure_by_extent-closed-requires : goal.closure_by_extent-closed-requires
+closure_by_extent-closed-requires g c =
     let lacks = sym c.has.ensures ∙ c.if-has.false in
     let closed = c.in_ok-close.ensures.closure c.if-not-branch.false in (
       omega arith,
@@ -48,7 +48,7 @@ closure_near-closed-requires g c =
           (
             c.requires.trying.at.wide,
             (
-              c.requires.near,
+              c.requires.extent,
               (
                 left_above c.requires.trying lacks c.with-reached.ensures c.in_ok-close.ensures.moved closed,
                 left_wide c.requires.trying lacks c.with-reached.ensures c.in_ok-close.ensures.moved closed,
@@ -59,8 +59,8 @@ closure_near-closed-requires g c =
       ),
     )
 
-pub enter-requires : goal.enter-requires
-enter-requires g c = (
+pub visit-requires : goal.visit-requires
+visit-requires g c = (
   omega arith,
   (
     omega arith,
@@ -71,7 +71,7 @@ enter-requires g c = (
         (
           left_entered c.requires.trying (sym c.has.ensures
               ∙ c.if-has.false) c.with-reached.ensures c.in_ok-close.ensures.moved (c.in_ok-close.ensures.closure c.if-not-branch.false),
-          (omega (arith, c.size.ensures.size, c.if-size-seen.false), c.closure_near-closed.ensures),
+          (omega (arith, c.size.ensures.size, c.if-size-seen.false), c.closure_by_extent-closed.ensures),
         ),
       ),
     ),
@@ -86,7 +86,7 @@ returns-then-branch-clause-done g c = λ new size members h. left_done c.require
 pub returns-clause-done : goal.returns-clause-done
 returns-clause-done g c = left_done c.requires.trying
     (sym c.has.ensures ∙ c.if-has.false) c.with-reached.ensures c.in_ok-close.ensures.moved
-    (c.in_ok-close.ensures.closure c.if-not-branch.false) (c.in_ok-enter.ensures.done c.if-branch.false)
+    (c.in_ok-close.ensures.closure c.if-not-branch.false) (c.in_ok-visit.ensures.done c.if-branch.false)
 
 pub returns-then-has-clause-steady : goal.returns-then-has-clause-steady
 returns-then-has-clause-steady g c = steady_same
@@ -98,7 +98,7 @@ pub returns-then-size-seen-clause-steady : goal.returns-then-size-seen-clause-st
 returns-then-size-seen-clause-steady g c = steady_same
 
 pub returns-then-branch-clause-steady : goal.returns-then-branch-clause-steady
-returns-then-branch-clause-steady g c = c.in_ok-enter.ensures.steady
+returns-then-branch-clause-steady g c = c.in_ok-visit.ensures.steady
 
 pub returns-clause-steady : goal.returns-clause-steady
-returns-clause-steady g c = c.in_ok-enter.ensures.steady
+returns-clause-steady g c = c.in_ok-visit.ensures.steady

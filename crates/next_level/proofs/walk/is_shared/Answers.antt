@@ -16,7 +16,7 @@ closure_among-shared-requires g c =
           c.requires.inside,
           (
             ap length c.with-tried.ensures ∙ length-set c.args.a.now c.args.i true ∙ wide,
-            extent_tried c.args.indexed.now c.args.a.now c.args.i c.args.near.now c.requires.near wide c.requires.inside c.with-tried.result
+            extent_tried c.args.indexed.now c.args.a.now c.args.i c.args.extent.now c.requires.extent wide c.requires.inside c.with-tried.result
                 c.with-tried.ensures,
           ),
         ),

@@ -15,7 +15,7 @@ child_at-requires g c =
     let tried : IsTrying c.args.indexed.now step.set i c.loop-i.rules c.loop-i.seen.bound c.loop-i.seen.members.items =
     trying s.at (omega (arith, s.inside, c.loop-i.invariant.before_end)) found (omega (arith, c.loop-i-test.true))
     (omega (arith, c.loop-i-test.true)) in
-    (omega arith, (omega arith, (omega arith, (omega (arith, c.width-width.ensures.words), (omega arith, (tried, (among, s.near)))))))
+    (omega arith, (omega arith, (omega arith, (omega (arith, c.width-width.ensures.words), (omega arith, (tried, (among, s.extent)))))))
 
 pub loop-i-preserved : goal.loop-i-preserved
 loop-i-preserved g c = record {

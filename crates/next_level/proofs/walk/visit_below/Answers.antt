@@ -2,7 +2,7 @@ use Rattle.std.proofs.Common.{ℕ, List, ◌∷◌, ◌++◌, [], ◌∙◌, ref
 use Rattle.fca_model.specs.Context.{Context}
 use Rattle.fca_model.specs.Implications.{Rule}
 use Rattle.lectic_basis.specs.Watches.{Watched}
-use Rattle.next_level.specs.LevelWalks.{HasLevel}
+use Rattle.next_level.specs.LevelWalks.{HasListed}
 use Rattle.next_level.specs.declared.walk.Step.{Step}
 use Rattle.next_level.proofs.LevelWalkLemmas.{steady_same, steady_then, among_from}
 use Rattle.next_level.proofs.StepLemmas.{IsWalk, walk_first, walk_step, walk_none, walk_below, walk_done, room_done, room_deeper}
@@ -14,7 +14,7 @@ loop-step-init g c =
     let first : Step g.row.W = c.args.first in
     record {
       walk = subst (λ (xs : List (Step g.row.W)). IsWalk K
-          (HasLevel K first.set first.from c.args.rules.now) xs c.args.rules.now c.args.seen.now.bound c.args.seen.now.members.items)
+          (HasListed K first.set first.from c.args.rules.now) xs c.args.rules.now c.args.seen.now.bound c.args.seen.now.members.items)
           (sym c.in_ok-steps.ensures.items) (walk_first c.requires);
       steady = steady_same;
     }
@@ -23,7 +23,7 @@ pub next_child-requires : goal.next_child-requires
 next_child-requires g c =
     let K : Context = c.args.indexed.now in
     let first : Step g.row.W = c.args.first in
-    let Wanted : Watched → ℕ → List Rule → Type 0 = HasLevel K first.set first.from c.args.rules.now in
+    let Wanted : Watched → ℕ → List Rule → Type 0 = HasListed K first.set first.from c.args.rules.now in
     let seen = c.loop-step.seen in
     let walk = subst (λ (xs : List (Step g.row.W)). IsWalk K Wanted xs c.loop-step.rules seen.bound seen.members.items)
     c.in-Some.ensures.items c.loop-step.invariant.walk in (
@@ -47,7 +47,7 @@ pub loop-step-preserved-in_default-child : goal.loop-step-preserved-in_default-c
 loop-step-preserved-in_default-child g c =
     let K : Context = c.args.indexed.now in
     let first : Step g.row.W = c.args.first in
-    let Wanted : Watched → ℕ → List Rule → Type 0 = HasLevel K first.set first.from c.args.rules.now in
+    let Wanted : Watched → ℕ → List Rule → Type 0 = HasListed K first.set first.from c.args.rules.now in
     let seen = c.loop-step.seen in
     let walk = subst (λ (xs : List (Step g.row.W)). IsWalk K Wanted xs c.loop-step.rules seen.bound seen.members.items)
     c.in-Some.ensures.items c.loop-step.invariant.walk in
@@ -62,7 +62,7 @@ pub step_below-requires : goal.step_below-requires
 step_below-requires g c =
     let K : Context = c.args.indexed.now in
     let first : Step g.row.W = c.args.first in
-    let Wanted : Watched → ℕ → List Rule → Type 0 = HasLevel K first.set first.from c.args.rules.now in
+    let Wanted : Watched → ℕ → List Rule → Type 0 = HasListed K first.set first.from c.args.rules.now in
     let seen = c.loop-step.seen in
     let walk = subst (λ (xs : List (Step g.row.W)). IsWalk K Wanted xs c.loop-step.rules seen.bound seen.members.items)
     c.in-Some.ensures.items c.loop-step.invariant.walk in
@@ -78,7 +78,7 @@ step_below-requires g c =
         omega arith,
         (
           omega (arith, words),
-          (omega (arith, words), (s.at.wide, (omega (arith, below.before_end, s.inside), (below, (s.near, among))))),
+          (omega (arith, words), (s.at.wide, (omega (arith, below.before_end, s.inside), (below, (s.extent, among))))),
         ),
       ),
     )
@@ -87,7 +87,7 @@ pub loop-step-smaller : goal.loop-step-smaller
 loop-step-smaller g c =
     let K : Context = c.args.indexed.now in
     let first : Step g.row.W = c.args.first in
-    let Wanted : Watched → ℕ → List Rule → Type 0 = HasLevel K first.set first.from c.args.rules.now in
+    let Wanted : Watched → ℕ → List Rule → Type 0 = HasListed K first.set first.from c.args.rules.now in
     let seen = c.loop-step.seen in
     let walk = subst (λ (xs : List (Step g.row.W)). IsWalk K Wanted xs c.loop-step.rules seen.bound seen.members.items)
     c.in-Some.ensures.items c.loop-step.invariant.walk in
@@ -103,7 +103,7 @@ pub loop-step-preserved : goal.loop-step-preserved
 loop-step-preserved g c =
     let K : Context = c.args.indexed.now in
     let first : Step g.row.W = c.args.first in
-    let Wanted : Watched → ℕ → List Rule → Type 0 = HasLevel K first.set first.from c.args.rules.now in
+    let Wanted : Watched → ℕ → List Rule → Type 0 = HasListed K first.set first.from c.args.rules.now in
     let seen = c.loop-step.seen in
     let next = c.next_child.new.seen in
     let walk = subst (λ (xs : List (Step g.row.W)). IsWalk K Wanted xs c.loop-step.rules seen.bound seen.members.items)
@@ -122,11 +122,11 @@ loop-step-preserved g c =
       steady = steady_then c.loop-step.invariant.steady c.in_ok-child.ensures.steady;
     }
 
-pub returns-clause-level : goal.returns-clause-level
-returns-clause-level g c =
+pub returns-clause-listed : goal.returns-clause-listed
+returns-clause-listed g c =
     let K : Context = c.args.indexed.now in
     let first : Step g.row.W = c.args.first in
-    walk_done K (HasLevel K first.set first.from c.args.rules.now) c.loop-step.rules c.loop-step.seen.bound c.loop-step.seen.members.items
+    walk_done K (HasListed K first.set first.from c.args.rules.now) c.loop-step.rules c.loop-step.seen.bound c.loop-step.seen.members.items
     c.loop-step.steps.items
     (omega (arith, c.in_default.ensures.cases.0, c.loop-step.steps.ok.0)) c.loop-step.invariant.walk
 

@@ -18,7 +18,7 @@ alike C tables same even e = like_intents C (tables e).context (same e) (even e)
 
 pub returns : goal.returns
 returns c = record {
-  dropped = λ C K names settings H tables respecting most known legal wide part same even runs.
+  no_row_dropped = λ C K names settings H tables respecting most known legal wide part same even runs.
       nothing_dropped (of_intents C) tables (alike C tables same even) K names settings H respecting most
       (known-intents C settings.known known) legal wide (intents_among C K.rows part) runs;
   basis = λ C K names settings H tables respecting most known legal wide part same even runs done.

@@ -2,7 +2,7 @@ use Rattle.std.proofs.Common.{◌≡◌, ◌∙◌, ◌++◌, take, ap, arith}
 use Rattle.std.specs.Prelude.{codes}
 use Rattle.fca_model.specs.Tables.{Text}
 use Rattle.expert_wire.specs.Texts.{comma_list, names_of}
-use Rattle.packed_concepts.specs.Lines.{Named, names_at}
+use Rattle.packed_concepts.specs.Lines.{TableNames, names_at}
 use Rattle.packed_concepts.proofs.LineLemmas.{line-parts}
 use Rattle.packed_concepts.proofs.line.put_line.Goals as goal
 
@@ -25,7 +25,7 @@ put_extent-extent-requires g c = record {
 
 pub returns : goal.returns
 returns g c =
-    let t : Named = c.args.names.now in
+    let t : TableNames = c.args.names.now in
     let old : Text = take c.args.start c.args.text.now in
     let number : take c.put_bytes-opened.result c.put_bytes-opened.new.text ≡ (old ++ c.args.digits.now) ++ codes " {" =
     c.put_bytes-opened.ensures.text ∙ ap (λ (z : Text). z ++ codes " {") c.put_bytes-number.ensures.text in

@@ -10,7 +10,7 @@ invariant-loop-from g l = record {
   room : length l.buffer ≡ length l.fn.buffer;
   some : 0 < length l.sheets;
   underway : Underway (g.K.Sink.held l.fn.out) (g.K.Sink.held l.out) (g.K.Sink.faults l.fn.out) (g.K.Sink.faults l.out)
-      (g.K.Sink.beside l.fn.out) (g.K.Sink.beside l.out) (g.K.Sink.asked_beside l.fn.out) (g.K.Sink.asked_beside l.out)
+      (g.K.Sink.beside l.fn.out) (g.K.Sink.beside l.out) (g.K.Sink.read_counts_beside l.fn.out) (g.K.Sink.read_counts_beside l.out)
       (all_lines l.names l.jobs) (all_lines l.names (drop l.from l.jobs));
 }
 

@@ -8,6 +8,6 @@ abbrev pub invariant-loop-stretch : goal.invariant-loop-stretch
 invariant-loop-stretch g l = record {
   room : length l.buffer ≡ length l.fn.buffer;
   underway : Underway (g.K.Sink.held l.fn.out) (g.K.Sink.held l.out) (g.K.Sink.faults l.fn.out) (g.K.Sink.faults l.out)
-      (g.K.Sink.beside l.fn.out) (g.K.Sink.beside l.out) (g.K.Sink.asked_beside l.fn.out) (g.K.Sink.asked_beside l.out)
+      (g.K.Sink.beside l.fn.out) (g.K.Sink.beside l.out) (g.K.Sink.read_counts_beside l.fn.out) (g.K.Sink.read_counts_beside l.out)
       (job_lines l.names l.job) (job_lines l.names (drop l.stretch-index l.job));
 }

@@ -4,7 +4,7 @@ use Rattle.std.proofs.lemmas.List.{append-nil, length-drop}
 use Rattle.std.proofs.lemmas.List.Concat.{flat_map-append}
 use Rattle.fca_model.specs.Sets.{Set}
 use Rattle.packed_concepts.specs.Packing.{total, unpacked}
-use Rattle.packed_concepts.specs.Stretches.{Placed, concepts_of, Follow}
+use Rattle.packed_concepts.specs.Stretches.{StretchConcepts, concepts_of, Follow}
 use Rattle.packed_concepts.specs.declared.page.IntentAndCount.{IntentAndCount}
 use Rattle.packed_concepts.proofs.PackingLemmas.{length-unpacked, total-take, unpacked-split, total-drop}
 use Rattle.packed_concepts.proofs.StretchLemmas.{Follow-one, Follow-append}
@@ -35,17 +35,17 @@ loop-packed-preserved g c =
     let T : List ℕ = c.loop-packed.places.now in
     let n = c.first_cut-cut.result.concepts in
     let m = c.first_cut-cut.result.objects in
-    let made : List Placed = c.loop-packed.made.items in
+    let made : List StretchConcepts = c.loop-packed.made.items in
     let own : List (Set × List ℕ) = unpacked c.split_at.result.0.now c.split_at-in-loop-packed.result.0.now in
     let rest : List (Set × List ℕ) = unpacked c.split_at.result.1.now c.split_at-in-loop-packed.result.1.now in
-    let one : Placed = record { first = c.loop-packed.next; concepts = own } in
+    let one : StretchConcepts = record { first = c.loop-packed.next; concepts = own } in
     let items : c.push.new.self.items ≡ made ++ one ∷ [] = c.in_ok-push.ensures.items in
     let parts : unpacked ps T ≡ own ++ rest = unpacked-split ps T n m c.loop-packed.invariant.fits c.first_cut-cut.ensures.objects
     ∙ ap₂ (λ (x y : List (Set × List ℕ)). x ++ y)
     (ap₂ (λ (qs : List (IntentAndCount g.row.W)) (E : List ℕ). unpacked qs E) (sym c.split_at.ensures.front) (sym c.split_at-in-loop-packed.ensures.front))
     (ap₂ (λ (qs : List (IntentAndCount g.row.W)) (E : List ℕ). unpacked qs E) (sym c.split_at.ensures.back) (sym c.split_at-in-loop-packed.ensures.back)) in
     let both : concepts_of c.push.new.self.items ≡ concepts_of made ++ own = ap concepts_of items
-    ∙ flat_map-append (λ (s : Placed). s.concepts) made (one ∷ [])
+    ∙ flat_map-append (λ (s : StretchConcepts). s.concepts) made (one ∷ [])
     ∙ ap (λ (z : List (Set × List ℕ)). concepts_of made ++ z) (append-nil own) in
     let count : length (concepts_of c.push.new.self.items) ≡ length (concepts_of made) + length own =
     ap length both ∙ length-append (concepts_of made) own in

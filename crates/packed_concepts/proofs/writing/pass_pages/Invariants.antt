@@ -11,7 +11,7 @@ invariant-loop-page g l = record {
   room : length l.buffer ≡ length l.fn.buffer;
   few : l.next + length (flat_map (λ page. page) (drop l.page-index l.pages)) < 2 ^ 64;
   passing : IsPassing (g.K.Sink.held l.fn.out) (g.K.Sink.held l.out) (g.K.Sink.faults l.fn.out) (g.K.Sink.faults l.out)
-      (g.K.Sink.beside l.fn.out) (g.K.Sink.beside l.out) (g.K.Sink.asked_beside l.fn.out) (g.K.Sink.asked_beside l.out)
+      (g.K.Sink.beside l.fn.out) (g.K.Sink.beside l.out) (g.K.Sink.read_counts_beside l.fn.out) (g.K.Sink.read_counts_beside l.out)
       (take l.fn.end l.fn.buffer) (take l.waits l.buffer) (lines_from l.names 0 (flat_map (λ page. page) l.pages))
       (lines_from l.names l.next (flat_map (λ page. page) (drop l.page-index l.pages)));
 }

@@ -6,7 +6,7 @@ use Rattle.fca_model.specs.Sets.{Set}
 use Rattle.fca_model.specs.Tables.{Text}
 use Rattle.expert_wire.specs.Texts.{ordinal}
 use Rattle.expert_wire.proofs.WriteLemmas.{Writes-front}
-use Rattle.packed_concepts.specs.Lines.{Named, line_of, lines_from}
+use Rattle.packed_concepts.specs.Lines.{TableNames, line_of, lines_from}
 use Rattle.packed_concepts.specs.Packing.{unpacked, IsNamed, HasRoomForLine}
 use Rattle.packed_concepts.specs.declared.page.IntentAndCount.{IntentAndCount}
 use Rattle.packed_concepts.proofs.PackingLemmas.{length-unpacked, total-left, unpacked-left, length-left}
@@ -85,7 +85,7 @@ loop-one-preserved g c =
     unpacked-left ps i one c.loop-one-test.true c.one-item.is rest in
     let front : c.split_at.result.0.now ≡ take one.count rest = c.split_at.ensures.front in
     let back : c.split_at.result.1.now ≡ drop one.count rest = c.split_at.ensures.back in
-    let t : Named = c.args.names.now in
+    let t : TableNames = c.args.names.now in
     let n = c.loop-one.next in
     let long = length-drop one.count rest in
     let sums = total-left ps i one c.loop-one-test.true c.one-item.is in

@@ -15,7 +15,7 @@ invariant-loop-one g l = record {
   enough : All (HasRoomForLine (length l.fn.buffer)) (unpacked (drop l.one-index l.packed) l.rest);
   few : l.next + length (drop l.one-index l.packed) < 2 ^ 64;
   passing : IsPassing (g.K.Sink.held l.fn.out) (g.K.Sink.held l.out) (g.K.Sink.faults l.fn.out) (g.K.Sink.faults l.out)
-      (g.K.Sink.beside l.fn.out) (g.K.Sink.beside l.out) (g.K.Sink.asked_beside l.fn.out) (g.K.Sink.asked_beside l.out)
+      (g.K.Sink.beside l.fn.out) (g.K.Sink.beside l.out) (g.K.Sink.read_counts_beside l.fn.out) (g.K.Sink.read_counts_beside l.out)
       (take l.fn.end l.fn.buffer) (take l.waits l.buffer) (lines_on l.names l.stretch)
       (lines_from l.names l.next (unpacked (drop l.one-index l.packed) l.rest));
 }

@@ -6,14 +6,14 @@ use Rattle.basis_report.specs.Sessions.{sessions_text}
 use Rattle.serve_command.specs.Accepted.{HasRoomFor}
 use Rattle.serve_command.specs.Served.{ended_words}
 use Rattle.serve_command.proofs.StepLemmas.{ok-from-three}
-use Rattle.serve_command.proofs.ServedLemmas.{IsOver, has-served-all, risen-talks}
+use Rattle.serve_command.proofs.ServedLemmas.{IsOver, has-served-all, returned-talks}
 use Rattle.serve_command.proofs.serving.explore_over.Goals as goal
 
-pub returns-in-Ok-clause-risen : goal.returns-in-Ok-clause-risen
-returns-in-Ok-clause-risen g c =
+pub returns-in-Ok-clause-returned : goal.returns-in-Ok-clause-returned
+returns-in-Ok-clause-returned g c =
     let Room : ℕ → Type 0 = HasRoomFor (g.L.Listener.ends c.args.link.now) in
     IfErr-any c.output_of.result _ (λ s.
-    risen-talks g.L.End.Source.left g.L.End.Sink.held g.L.End.Source.reads g.L.End.Source.faults g.L.End.Sink.faults
+    returned-talks g.L.End.Source.left g.L.End.Sink.held g.L.End.Source.reads g.L.End.Source.faults g.L.End.Sink.faults
     c.args.explore.opening.table c.in-Ok.served.explore.journal
     c.args.ends.items c.in-Ok.served.ends.items _ _ c.in-Ok.served.ended.items c.in-Ok.ensures.talks
     (λ room. c.give_back.ensures.given (subst Room (sym c.in-Ok.served.ends.ok.0) room)))

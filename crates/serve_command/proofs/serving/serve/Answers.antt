@@ -11,7 +11,7 @@ use Rattle.command_io.proofs.ErrLemmas.{err-passed}
 use Rattle.command_io.proofs.QuietLemmas.{unless_fault, unless_listener, fault-passed, listener-passed, SameCounts-then}
 use Rattle.command_io.specs.Known.{start_of}
 use Rattle.serve_command.specs.Served.{IsOutput}
-use Rattle.serve_command.proofs.StepLemmas.{early-back, short-back, risen-ends, served-output, memory-serve, link-serve}
+use Rattle.serve_command.proofs.StepLemmas.{early-back, short-back, returned-ends, served-output, memory-serve, link-serve}
 use Rattle.serve_command.proofs.StepLemmas.{heard, heard-refused}
 use Rattle.serve_command.proofs.serving.serve.Goals as goal
 
@@ -65,8 +65,8 @@ returns-clause-refused g c = IfErr-weaker c.explore_over.result _ _
 pub returns-clause-ends : goal.returns-clause-ends
 returns-clause-ends g c =
     let many = sym c.in_ok-ends.ends.ok.0 ∙ c.in_ok-ends.ensures.count in
-    risen-ends _ _ _ _ _ _ _ _ _ _ c.explore_over.result c.in_ok-ends.ensures.within c.in_ok-ends.ensures.taken many
-    c.explore_over.ensures.risen c.explore_over.ensures.cause
+    returned-ends _ _ _ _ _ _ _ _ _ _ c.explore_over.result c.in_ok-ends.ensures.within c.in_ok-ends.ensures.taken many
+    c.explore_over.ensures.returned c.explore_over.ensures.cause
 
 pub returns-in_err-ends-clause-cause : goal.returns-in_err-ends-clause-cause
 returns-in_err-ends-clause-cause g c =

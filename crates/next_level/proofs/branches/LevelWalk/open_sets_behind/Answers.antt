@@ -6,8 +6,8 @@ use Rattle.next_level.proofs.BranchLemmas.{root_entered}
 use Rattle.next_level.proofs.ConcernLemmas.{concerning_listed, concerning_among}
 use Rattle.next_level.proofs.branches.LevelWalk.open_sets_behind.Goals as goal
 
-pub enter_all-requires : goal.enter_all-requires
-enter_all-requires g c =
+pub visit_all-requires : goal.visit_all-requires
+visit_all-requires g c =
     let self = c.args.self.now in
     let seen = c.new-seen.result in
     let rules = c.in_ok-rules.ensures in
@@ -44,8 +44,8 @@ enter_all-requires g c =
 pub returns-clause-listed : goal.returns-clause-listed
 returns-clause-listed g c =
     let self = c.args.self.now in
-    let level = c.in_ok-enter_all.ensures.level in
+    let listed = c.in_ok-visit_all.ensures.listed in
     concerning_listed self.root c.args.from (up_to c.args.from self.least)
     (λ X up p. up_to_agree c.args.from self.least X p (within_not_before c.args.from self.least X up))
-    c.enter_all.new.rules.list (level.list ∙ c.in_ok-rules.ensures.list) c.enter_all.new.seen.bound c.enter_all.new.seen.members.items
-    level.level
+    c.visit_all.new.rules.list (listed.list ∙ c.in_ok-rules.ensures.list) c.visit_all.new.seen.bound c.visit_all.new.seen.members.items
+    listed.listed

@@ -95,8 +95,8 @@ child_among-requires g c =
       ),
     )
 
-pub enter_all-requires : goal.enter_all-requires
-enter_all-requires g c =
+pub visit_all-requires : goal.visit_all-requires
+visit_all-requires g c =
     let self = c.args.self.now in
     let rules = c.in_ok-rules.ensures in
     let root = rules.inside 0 (omega arith) in
@@ -135,10 +135,10 @@ returns-clause-listed g c =
     let moved = c.in_ok-close.ensures.moved in
     let at = (left_entered (branch_trying root c.args.i c.requires lacks 0) lacks c.with-reached.ensures moved closed).at in
     let put = c.in_ok-push_to_wait.ensures in
-    let level = c.in_ok-enter_all.ensures.level in
+    let listed = c.in_ok-visit_all.ensures.listed in
     concerning_listed c.args.self.now.root c.args.i (in_branch c.args.i c.args.self.now.least)
     (λ X up p. (branch_parts c.args.self.now.least c.args.i (omega (arith, root_wide c.args.self.now.root, c.requires)) X p).1)
     c.in_ok-rules.rules.list rules.list _ _
     (branch_done root c.args.i c.requires lacks c.close.new.reached closure closed.agree _ refl refl at moved.list
     c.push_to_wait.new.self put.list put.put
-    c.enter_all.new.seen.bound c.enter_all.new.seen.members.items c.enter_all.new.rules.list level.list level.level)
+    c.visit_all.new.seen.bound c.visit_all.new.seen.members.items c.visit_all.new.rules.list listed.list listed.listed)

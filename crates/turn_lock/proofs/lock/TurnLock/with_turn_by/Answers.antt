@@ -5,7 +5,7 @@ use Rattle.turn_lock.proofs.lock.TurnLock.with_turn_by.Goals.{in-Ok, in-Err}
 pub invariant_of-pass : goal.invariant_of-pass
 invariant_of-pass g c =
     let i = c.pass.invariant in
-    let p = c.play-reply.ensures in
+    let p = c.run_turn-reply.ensures in
     let least = i.4 in (
       p.idle,
       i.1 ∙ sym (ap (λ b. b.number) p.same),

@@ -1,9 +1,0 @@
-use Rattle.std.proofs.Common.{◌≡◌, ◌++◌, drop}
-use Rattle.std.specs.List.{flat_map, enumerate_from}
-use Rattle.report_texts.specs.Reports.{arrow_line, arrow_lines}
-use Rattle.report_texts.proofs.implications.write_arrows.Given as goal
-
-abbrev pub invariant-loop-place : goal.invariant-loop-place
-invariant-loop-place l =
-    l.draft ++ flat_map (λ x. arrow_line l.words l.table.attributes x.0 x.1) (enumerate_from l.place (drop l.place l.list))
-    ≡ l.fn.draft ++ arrow_lines l.words l.table.attributes l.list
