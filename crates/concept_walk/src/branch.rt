@@ -51,7 +51,7 @@ pub fn gather_branch<const W: usize>(
     steps.push(first_step(alloc, crosses, node, candidates, pool)?)?;
     while let Some(mut step) = steps.pop() {
         match next_step(alloc, crosses, gathering, &mut step, pool)? {
-            Descent::End => put_back(step, &mut pool.free)?,
+            Descent::End => put_back(step, &mut pool.spare)?,
             Descent::Whole => steps.push(step)?,
             Descent::Below(deeper) => {
                 steps.push(step)?;

@@ -56,7 +56,14 @@ pub(crate) fn gather_apart<const W: usize>(
         from: node.from,
         witnesses: node.witnesses,
     };
-    gather_few(alloc, crosses, &pool.few, gathering, &apart, &mut pool.free)
+    gather_few(
+        alloc,
+        crosses,
+        &pool.few,
+        gathering,
+        &apart,
+        &mut pool.spare,
+    )
 }
 
 /// Adds the concepts of the node's branch to the gathering. Its objects are some of the few.
@@ -66,7 +73,7 @@ fn gather_few<const W: usize>(
     few: &FewObjects<W>,
     gathering: &mut Gathering<W>,
     node: &FewNode<'_, W>,
-    free: &mut Vec<WorkLists>,
+    spare: &mut Vec<WorkLists>,
 ) -> Result<(), Memory>
     requires { IsFewNode crosses.now few.now node.now }
     ensures { OnOk result (Fills crosses.now gathering.old gathering.new (branch crosses.now node.now.intent.now node.now.from)) }
@@ -74,7 +81,7 @@ fn gather_few<const W: usize>(
     let rows = crosses.rows();
     let a = node.intent;
     let mut end = rows.width();
-    let mut scratch = take_lists(alloc, free);
+    let mut scratch = take_lists(alloc, spare);
     few.put_places(rows, a, node.objects, &mut scratch.found)?;
     gathering.add(crosses, a, &scratch.found)?;
     let tries = attributes_to_try(rows, a, &scratch.found);
@@ -99,9 +106,9 @@ fn gather_few<const W: usize>(
             from: i + 1,
             witnesses: pass_witnesses(rows, a, known, &child.intent),
         };
-        gather_few(alloc, crosses, few, gathering, &below, free)?;
+        gather_few(alloc, crosses, few, gathering, &below, spare)?;
     }
-    free.push(scratch)?;
+    spare.push(scratch)?;
     Ok(())
 }
 

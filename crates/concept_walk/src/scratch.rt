@@ -20,7 +20,7 @@ pub struct WorkLists {
 /// The lists that no step writes on at present, and the few objects that were set apart last.
 #[derive(Drop)]
 pub struct WorkListPool<const W: usize> {
-    pub(crate) free: Vec<WorkLists>,
+    pub(crate) spare: Vec<WorkLists>,
     pub(crate) few: FewObjects<W>,
 }
 
@@ -39,21 +39,21 @@ impl WorkLists {
 impl<const W: usize> WorkListPool<W> {
     /// An empty pool, for walks over these rows.
     pub fn new(alloc: Global, rows: &RowsOf<W>) -> Result<WorkListPool<W>, Memory>
-        ensures free { IfOk result (λ pool. pool.free.items ≡ []) }
+        ensures spare { IfOk result (λ pool. pool.spare.items ≡ []) }
         ensures few { IfOk result (λ pool. HasNoObject pool.few) }
     {
         Ok(WorkListPool {
-            free: Vec::new(alloc),
+            spare: Vec::new(alloc),
             few: FewObjects::new(alloc, rows.width())?,
         })
     }
 }
 
-/// Takes free lists, or makes them. Nothing is noted there.
-pub(crate) fn take_lists(alloc: Global, free: &mut Vec<WorkLists>) -> WorkLists
+/// Takes spare lists, or makes them. Nothing is noted there.
+pub(crate) fn take_lists(alloc: Global, spare: &mut Vec<WorkLists>) -> WorkLists
     ensures { result.noted.items ≡ [] }
 {
-    if let Some(mut scratch) = free.pop() {
+    if let Some(mut scratch) = spare.pop() {
         scratch.noted.clear();
         return scratch;
     }

@@ -93,18 +93,18 @@ pub(crate) fn first_step<const W: usize>(
     ensures { IfOk result (λ step. BeginsAt crosses.now node.now.intent.now node.now.from candidates.entry.end step) }
 {
     let _width = crosses.rows().width();
-    let mut spare = take_lists(alloc, &mut pool.free);
-    spare.found.clear();
-    spare.found.extend_from_slice(node.places)?;
-    spare.noted.extend_from_slice(node.witnesses)?;
+    let mut lists = take_lists(alloc, &mut pool.spare);
+    lists.found.clear();
+    lists.found.extend_from_slice(node.places)?;
+    lists.noted.extend_from_slice(node.witnesses)?;
     Ok(Step {
         intent: *node.intent,
-        places: spare.found,
+        places: lists.found,
         count: node.places.len(),
         from: node.from,
-        witnesses: spare.noted,
+        witnesses: lists.noted,
         candidates,
-        scratch: take_lists(alloc, &mut pool.free),
+        scratch: take_lists(alloc, &mut pool.spare),
     })
 }
 
@@ -142,26 +142,26 @@ pub(crate) fn next_step<const W: usize>(
     let Some(candidates) = enter(alloc, crosses, gathering, &below, pool)? else {
         return Ok(Descent::Whole);
     };
-    let mut spare = take_lists(alloc, &mut pool.free);
-    spare.noted.extend_from_slice(passed)?;
+    let mut lists = take_lists(alloc, &mut pool.spare);
+    lists.noted.extend_from_slice(passed)?;
     Ok(Descent::Below(Step {
         intent: child.intent,
-        places: replace(&mut step.scratch.found, spare.found),
+        places: replace(&mut step.scratch.found, lists.found),
         count: child.count,
         from: child.attribute + 1,
-        witnesses: spare.noted,
+        witnesses: lists.noted,
         candidates,
-        scratch: take_lists(alloc, &mut pool.free),
+        scratch: take_lists(alloc, &mut pool.spare),
     }))
 }
 
 /// Puts back the lists of the step. Later steps take them again, at the same depth those of the same length.
 pub(crate) fn put_back<const W: usize>(
     step: Step<W>,
-    free: &mut Vec<WorkLists>,
+    spare: &mut Vec<WorkLists>,
 ) -> Result<(), Memory> {
-    free.push(step.scratch)?;
-    free.push(WorkLists {
+    spare.push(step.scratch)?;
+    spare.push(WorkLists {
         found: step.places,
         noted: step.witnesses,
     })?;

@@ -25,19 +25,19 @@ use Rattle.command_io.specs.Forms.{table_read}
 use Rattle.command_io.specs.Endings.{Output, finished}
 
 -- the concepts, as JSON or as a list
-abbrev pub table_concepts : Bool → NamedContext → Text
-table_concepts json table = cond json (concepts_json table (concepts table.context)) (concepts_text table (concepts table.context))
+abbrev pub table_concepts_text : Bool → NamedContext → Text
+table_concepts_text json table = cond json (concepts_json table (concepts table.context)) (concepts_text table (concepts table.context))
 
-abbrev pub table_lattice : NamedContext → Text
-table_lattice table = lattice_text table (concepts table.context) (covers table.context)
+abbrev pub table_lattice_text : NamedContext → Text
+table_lattice_text table = lattice_text table (concepts table.context) (covers table.context)
 
 -- the basis, as JSON or as a list
-abbrev pub table_basis : Bool → NamedContext → Text
-table_basis json table = cond json (basis_json table.attributes (basis table.context)) (basis_text table.attributes (basis table.context))
+abbrev pub table_basis_text : Bool → NamedContext → Text
+table_basis_text json table = cond json (basis_json table.attributes (basis table.context)) (basis_text table.attributes (basis table.context))
 
 -- the direct basis
-abbrev pub table_direct : NamedContext → Text
-table_direct table = direct_text table.attributes (direct table.context)
+abbrev pub table_direct_text : NamedContext → Text
+table_direct_text table = direct_text table.attributes (direct table.context)
 
 -- whether the implication from P to C holds
 abbrev pub table_verdict : Set → Set → NamedContext → Text
@@ -63,8 +63,8 @@ abbrev pub reduced_text : NamedContext → Text
 reduced_text table = cxt_text (table_part table (irreducible_objects table.context) (irreducible_attributes table.context))
 
 -- the arrows between its objects and attributes
-abbrev pub table_arrows : NamedContext → Text
-table_arrows table = arrows_text table (arrow_table table.context)
+abbrev pub table_arrows_text : NamedContext → Text
+table_arrows_text table = arrows_text table (arrow_table table.context)
 
 -- whether the command reads its table with rows as narrow as it is
 abbrev pub reads_narrow : Command → Bool
@@ -75,14 +75,14 @@ reads_narrow _ = false
 
 -- what the command reports of the table, if it reports on a table
 abbrev pub table_report : Command → NamedContext → Reading Text
-table_report (Concepts file json) table = Read (table_concepts json table)
-table_report (Lattice file) table = Read (table_lattice table)
-table_report (Basis file json) table = Read (table_basis json table)
-table_report (Direct file) table = Read (table_direct table)
+table_report (Concepts file json) table = Read (table_concepts_text json table)
+table_report (Lattice file) table = Read (table_lattice_text table)
+table_report (Basis file json) table = Read (table_basis_text json table)
+table_report (Direct file) table = Read (table_direct_text table)
 table_report (Follows file premise conclusion) table = verdict_read premise conclusion table
 table_report (Convert file to) table = Read (converted_text to table)
 table_report (Reduce file) table = Read (reduced_text table)
-table_report (Arrows file) table = Read (table_arrows table)
+table_report (Arrows file) table = Read (table_arrows_text table)
 table_report _ table = Refused
 
 -- what the command reports of the table in the file

@@ -10,8 +10,8 @@ ghost use Rattle.fca_io.specs.Faults.{Rose, one_more};
 ghost use Rattle.command_io.specs.Causes.{UnlessReadFault, IsFileStop};
 ghost use Rattle.command_io.specs.Forms.{table_read};
 ghost use Rattle.command_io.specs.Endings.{finished, IsRefusal};
-ghost use Rattle.fca_run.specs.Reports.{attributes_read, table_concepts, table_basis, table_direct, verdict_read};
-ghost use Rattle.fca_run.specs.Reports.{converted_text, reduced_text, table_arrows, table_report, reads_narrow, report_output};
+ghost use Rattle.fca_run.specs.Reports.{attributes_read, table_concepts_text, table_basis_text, table_direct_text, verdict_read};
+ghost use Rattle.fca_run.specs.Reports.{converted_text, reduced_text, table_arrows_text, table_report, reads_narrow, report_output};
 ghost use Rattle.fca_run.specs.Causes.{IsReportStop};
 
 use attr_bits::Attrs;
@@ -139,7 +139,7 @@ fn report_on<R: Threads + Sync>(
     match command {
         Command::Concepts { json: true, .. } => Ok(Output::of_text(json_concepts(alloc, table)?)),
         Command::Basis { json: true, .. } => Ok(Output::of_text(json_basis(rt, alloc, table)?)),
-        Command::Direct { .. } => Ok(Output::of_text(table_direct(alloc, table)?)),
+        Command::Direct { .. } => Ok(Output::of_text(table_direct_text(alloc, table)?)),
         Command::Follows {
             premise,
             conclusion,
@@ -147,7 +147,7 @@ fn report_on<R: Threads + Sync>(
         } => Ok(Output::of_text(verdict(rt, alloc, table, premise, conclusion)?)),
         Command::Convert { to, .. } => Ok(Output::of_text(converted_text(alloc, *to, table)?)),
         Command::Reduce { .. } => Ok(Output::of_text(reduced_text(alloc, table)?)),
-        Command::Arrows { .. } => Ok(Output::of_text(table_arrows(alloc, table)?)),
+        Command::Arrows { .. } => Ok(Output::of_text(table_arrows_text(alloc, table)?)),
         // (`reports`, `whole`: the others write no report, or read a narrow table)
         _ => unreachable!(),
     }
@@ -155,7 +155,7 @@ fn report_on<R: Threads + Sync>(
 
 /// The concepts of the table, as JSON.
 fn json_concepts(alloc: Global, table: &Table) -> Result<Vec<u8>, Memory>
-    ensures { IfOk result (λ text. text.items ≡ table_concepts true table.now) }
+    ensures { IfOk result (λ text. text.items ≡ table_concepts_text true table.now) }
 {
     let concepts = all_concepts(alloc, table.rows())?;
     concepts_json(alloc, table, &concepts)
@@ -163,15 +163,15 @@ fn json_concepts(alloc: Global, table: &Table) -> Result<Vec<u8>, Memory>
 
 /// The basis of the table, as JSON.
 fn json_basis<R: Threads + Sync>(rt: &R, alloc: Global, table: &Table) -> Result<Vec<u8>, Memory>
-    ensures { IfOk result (λ text. text.items ≡ table_basis true table.now) }
+    ensures { IfOk result (λ text. text.items ≡ table_basis_text true table.now) }
 {
     let basis = basis(rt, alloc, table.rows())?;
     basis_json(alloc, table, &basis)
 }
 
 /// The direct basis of the table.
-fn table_direct(alloc: Global, table: &Table) -> Result<Vec<u8>, Memory>
-    ensures { IfOk result (λ text. text.items ≡ table_direct table.now) }
+fn table_direct_text(alloc: Global, table: &Table) -> Result<Vec<u8>, Memory>
+    ensures { IfOk result (λ text. text.items ≡ table_direct_text table.now) }
 {
     let list = proper_premises(alloc, table.rows())?;
     direct_text(alloc, table, &list)
@@ -227,8 +227,8 @@ fn reduced_text(alloc: Global, table: &Table) -> Result<Vec<u8>, Memory>
 }
 
 /// The arrows between the objects and the attributes of the table.
-fn table_arrows(alloc: Global, table: &Table) -> Result<Vec<u8>, Memory>
-    ensures { IfOk result (λ text. text.items ≡ table_arrows table.now) }
+fn table_arrows_text(alloc: Global, table: &Table) -> Result<Vec<u8>, Memory>
+    ensures { IfOk result (λ text. text.items ≡ table_arrows_text table.now) }
 {
     let arrows = arrows(alloc, table)?;
     arrows_text(alloc, table, &arrows)

@@ -13,7 +13,7 @@ returns g c =
     let entered = rw c.in-Some-2.is at c.in_ok-candidates.ensures in
     let passed : List ℕ = c.pass_witnesses-passed.result.now in
     let copied : c.extend_from_slice.new.self.items ≡ passed =
-    c.in_ok-extend_from_slice.ensures.items ∙ ap (λ (xs : List ℕ). xs ++ passed) c.take_lists-spare.ensures in (
+    c.in_ok-extend_from_slice.ensures.items ∙ ap (λ (xs : List ℕ). xs ++ passed) c.take_lists-lists.ensures in (
       record {
         step = record {
           wide = c.requires.wide;
