@@ -13,16 +13,16 @@ crosses K = sum_by size K.rows
 
 -- six numbers, each after the word for what it counts
 abbrev pub survey_lines : ℕ → ℕ → ℕ → ℕ → ℕ → ℕ → Text
-survey_lines objects attributes crosses concepts basis explored =
+survey_lines objects attributes crosses concepts basis accepted =
     count_line (codes "objects ") objects
     ++ (count_line (codes "attributes ") attributes
     ++ (count_line (codes "crosses ") crosses
     ++ (count_line (codes "concepts ") concepts
     ++ (count_line (codes "basis ") basis
-    ++ count_line (codes "explored ") explored))))
+    ++ count_line (codes "explored ") accepted))))
 
 -- the numbers of objects, attributes and crosses of the table, of its concepts, of the members of its basis, and of the implications that
 -- an exploration of it accepted
 abbrev pub survey_text : NamedContext → ℕ → ℕ → ℕ → Text
-survey_text t concepts basis explored =
-    survey_lines (length t.context.rows) t.context.width (crosses t.context) concepts basis explored
+survey_text t concepts basis accepted =
+    survey_lines (length t.context.rows) t.context.width (crosses t.context) concepts basis accepted

@@ -16,12 +16,12 @@ pub fn survey_text(
     table: &Table,
     concepts: usize,
     basis: usize,
-    explored: usize,
+    accepted: usize,
 ) -> Result<Vec<u8>, Memory>
-    ensures { IfOk result (λ v. v.items ≡ survey_text table.now concepts basis explored) }
+    ensures { IfOk result (λ v. v.items ≡ survey_text table.now concepts basis accepted) }
 {
     let mut draft = Draft::new(alloc);
-    write_survey(&mut draft, table, concepts, basis, explored)?;
+    write_survey(&mut draft, table, concepts, basis, accepted)?;
     Ok(draft.into_bytes())
 }
 
@@ -31,16 +31,16 @@ fn write_survey(
     table: &Table,
     concepts: usize,
     basis: usize,
-    explored: usize,
+    accepted: usize,
 ) -> Result<(), Memory>
-    ensures { OnOk result (draft.new ≡ draft.old ++ survey_text table.now concepts basis explored) }
+    ensures { OnOk result (draft.new ≡ draft.old ++ survey_text table.now concepts basis accepted) }
 {
     write_count_line(draft, b"objects ", table.rows().len())?;
     write_count_line(draft, b"attributes ", table.rows().width() as usize)?;
     write_count_line(draft, b"crosses ", crosses(table))?;
     write_count_line(draft, b"concepts ", concepts)?;
     write_count_line(draft, b"basis ", basis)?;
-    write_count_line(draft, b"explored ", explored)
+    write_count_line(draft, b"explored ", accepted)
 }
 
 /// The number of crosses of the table.

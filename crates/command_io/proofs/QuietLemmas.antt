@@ -4,18 +4,18 @@ use Rattle.fca_model.specs.Tables.{Text}
 use Rattle.fca_io.specs.declared.outside.Taken.{Taken}
 use Rattle.fca_io.specs.declared.outside.Taken.TheVariants as taken
 use Rattle.command_io.specs.Readings.{SameCounts}
-use Rattle.command_io.specs.Causes.{UnlessReadFault, UnlessListener, taken_stop}
+use Rattle.command_io.specs.Causes.{UnlessReadFault, UnlessListenerFault, taken_stop}
 use Rattle.command_io.specs.declared.stop.Origin.{Origin}
 use Rattle.command_io.specs.declared.stop.Stop.{Stop}
-use Rattle.command_io.specs.declared.stop.Stop.TheVariants.{ReadFault, Listener}
+use Rattle.command_io.specs.declared.stop.Stop.TheVariants.{ReadFault, ListenerFault}
 
 -- what holds holds unless a call failed
 pub unless_fault : {X : Type 0} (r : Result X Stop) (P : Type 0) → P → UnlessReadFault r P
 unless_fault (Err (ReadFault origin)) P p = tt
 unless_fault _ P p = p
 
-pub unless_listener : {X : Type 0} (r : Result X Stop) (P : Type 0) → P → UnlessListener r P
-unless_listener (Err Listener) P p = tt
+pub unless_listener : {X : Type 0} (r : Result X Stop) (P : Type 0) → P → UnlessListenerFault r P
+unless_listener (Err ListenerFault) P p = tt
 unless_listener _ P p = p
 
 -- what follows of it holds too
@@ -23,8 +23,8 @@ pub unless_fault-more : {X : Type 0} (r : Result X Stop) (P Q : Type 0) → (P �
 unless_fault-more (Err (ReadFault origin)) P Q more p = tt
 unless_fault-more _ P Q more p = more p
 
-pub unless_listener-more : {X : Type 0} (r : Result X Stop) (P Q : Type 0) → (P → Q) → UnlessListener r P → UnlessListener r Q
-unless_listener-more (Err Listener) P Q more p = tt
+pub unless_listener-more : {X : Type 0} (r : Result X Stop) (P Q : Type 0) → (P → Q) → UnlessListenerFault r P → UnlessListenerFault r Q
+unless_listener-more (Err ListenerFault) P Q more p = tt
 unless_listener-more _ P Q more p = more p
 
 -- what the exit of a `?` returns is the stop that was passed
@@ -39,13 +39,13 @@ fault-passed {X = X} (Err t) s P passed p = let Holds : Stop → Type 0 = λ z. 
     by_stop _ q = q
 
 pub listener-passed : {X : Type 0} (r : Result X Stop) (s : Stop) (P : Type 0) → IsErrAnd r (λ passed. passed ≡ s)
-    → UnlessListener {X = Unit {0}} (Err s) P → UnlessListener r P
+    → UnlessListenerFault {X = Unit {0}} (Err s) P → UnlessListenerFault r P
 listener-passed (Ok x) s P passed p = absurd passed
-listener-passed {X = X} (Err t) s P passed p = let Holds : Stop → Type 0 = λ z. UnlessListener {X = X} (Err z) P in
+listener-passed {X = X} (Err t) s P passed p = let Holds : Stop → Type 0 = λ z. UnlessListenerFault {X = X} (Err z) P in
     subst Holds (sym passed) (by_stop s p)
   where
-    by_stop : (z : Stop) → UnlessListener {X = Unit {0}} (Err z) P → UnlessListener {X = X} (Err z) P
-    by_stop Listener q = tt
+    by_stop : (z : Stop) → UnlessListenerFault {X = Unit {0}} (Err z) P → UnlessListenerFault {X = X} (Err z) P
+    by_stop ListenerFault q = tt
     by_stop _ q = q
 
 -- what follows of it, where this stop is passed

@@ -16,7 +16,7 @@ use Rattle.command_io.specs.Forms.{is_csv}
 use Rattle.command_io.specs.declared.stop.Origin.{Origin}
 use Rattle.command_io.specs.declared.stop.Origin.TheVariants.{Input}
 use Rattle.command_io.specs.declared.stop.Stop.{Stop}
-use Rattle.command_io.specs.declared.stop.Stop.TheVariants.{TooLong, NoCxt, NoCsv, BadValues, BadPlan, NoScript, ReadFault, Listener, Memory}
+use Rattle.command_io.specs.declared.stop.Stop.TheVariants.{TooLong, NoCxt, NoCsv, BadValues, BadPlan, NoScript, ReadFault, ListenerFault, Memory}
 
 -- P holds unless a file or the input could not be read
 abbrev pub UnlessReadFault : {X : Type 0} → Result X Stop → Type 0 → Type 0
@@ -24,9 +24,9 @@ UnlessReadFault (Err (ReadFault origin)) P = ⊤
 UnlessReadFault _ P = P
 
 -- P holds unless the listener failed
-abbrev pub UnlessListener : {X : Type 0} → Result X Stop → Type 0 → Type 0
-UnlessListener (Err Listener) P = ⊤
-UnlessListener _ P = P
+abbrev pub UnlessListenerFault : {X : Type 0} → Result X Stop → Type 0 → Type 0
+UnlessListenerFault (Err ListenerFault) P = ⊤
+UnlessListenerFault _ P = P
 
 -- the stop for bytes of this origin that could not be read
 abbrev pub taken_stop : Taken → Origin → Stop

@@ -10,7 +10,7 @@ use Rattle.command_io.specs.declared.stop.Origin.{Origin}
 use Rattle.command_io.specs.declared.stop.Origin.TheVariants.{Input}
 use Rattle.command_io.specs.declared.stop.Stop.{Stop}
 use Rattle.command_io.specs.declared.stop.Stop.TheVariants.{NoCommand, TooLong, NoCxt, NoCsv, BadValues, BadPlan, NoKnown}
-use Rattle.command_io.specs.declared.stop.Stop.TheVariants.{RowBreaks, NoScript, UnknownAttribute, OtherAttributes, ReadFault, Listener, Memory}
+use Rattle.command_io.specs.declared.stop.Stop.TheVariants.{RowBreaks, NoScript, UnknownAttribute, OtherAttributes, ReadFault, ListenerFault, Memory}
 
 -- ---- what a command comes to
 
@@ -32,14 +32,14 @@ ending_of (question ∷ later) = Open
 abbrev pub IsRefusal : Stop → Type 0
 IsRefusal NoCommand = ⊥
 IsRefusal (ReadFault origin) = ⊥
-IsRefusal Listener = ⊥
+IsRefusal ListenerFault = ⊥
 IsRefusal Memory = ⊥
 IsRefusal _ = ⊤
 
 -- something that the command reads was refused, or could not be read
 abbrev pub IsUnread : Stop → Type 0
 IsUnread NoCommand = ⊥
-IsUnread Listener = ⊥
+IsUnread ListenerFault = ⊥
 IsUnread Memory = ⊥
 IsUnread _ = ⊤
 
@@ -113,7 +113,7 @@ stop_status UnknownAttribute = 2
 stop_status (OtherAttributes origin) = 2
 stop_status (ReadFault origin) = 3
 stop_status Memory = 5
-stop_status Listener = 7
+stop_status ListenerFault = 7
 
 abbrev pub status_of : Outcome → ℕ
 status_of (Written output) = ending_status output.ending

@@ -26,7 +26,7 @@ use Rattle.command_io.specs.declared.stop.Origin.{Origin}
 use Rattle.command_io.specs.declared.stop.Origin.TheVariants.{File, Known, Later, Input}
 use Rattle.command_io.specs.declared.stop.Stop.{Stop}
 use Rattle.command_io.specs.declared.stop.Stop.TheVariants.{NoCommand, TooLong, NoCxt, NoCsv, BadValues, BadPlan, NoKnown}
-use Rattle.command_io.specs.declared.stop.Stop.TheVariants.{RowBreaks, NoScript, UnknownAttribute, OtherAttributes, ReadFault, Listener, Memory}
+use Rattle.command_io.specs.declared.stop.Stop.TheVariants.{RowBreaks, NoScript, UnknownAttribute, OtherAttributes, ReadFault, ListenerFault, Memory}
 
 -- ---- the form of a line
 
@@ -69,7 +69,7 @@ stop_line file (NoScript fault) = placed_line INPUT.now (script.description faul
 stop_line file UnknownAttribute = plain_line UNKNOWN_ATTRIBUTE.now
 stop_line file (OtherAttributes origin) = placed_line (name_of file origin) (Whole, ATTRIBUTES_DIFFER.now)
 stop_line file (ReadFault origin) = placed_line (name_of file origin) (Whole, READ_FAULT.now)
-stop_line file Listener = plain_line LISTENER_FAULT.now
+stop_line file ListenerFault = plain_line LISTENER_FAULT.now
 stop_line file Memory = plain_line NO_MEMORY.now
 
 -- the line of a fault of out

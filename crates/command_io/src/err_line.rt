@@ -76,7 +76,7 @@ fn write_stop<E: Sink>(err: &mut E, file: &[u8], stop: &Stop) -> Result<(), Put>
             ATTRIBUTES_DIFFER,
         ),
         Stop::ReadFault(origin) => write_whole(err, name_of(file, *origin), READ_FAULT),
-        Stop::Listener => write_plain(err, LISTENER_FAULT),
+        Stop::ListenerFault => write_plain(err, LISTENER_FAULT),
         Stop::Memory => write_plain(err, NO_MEMORY),
     }
 }

@@ -42,7 +42,7 @@ pub enum Stop {
     /// An expert's table has other attributes than the table that is explored.
     OtherAttributes(Origin),
     ReadFault(Origin),
-    Listener,
+    ListenerFault,
     Memory,
 }
 
@@ -113,7 +113,7 @@ impl Stop {
             | Stop::OtherAttributes(_) => 2,
             Stop::ReadFault(_) => 3,
             Stop::Memory => 5,
-            Stop::Listener => 7,
+            Stop::ListenerFault => 7,
         }
     }
 }

@@ -12,7 +12,7 @@ use Rattle.fca_model.specs.Room.{steps_bound}
 use Rattle.fca_model.proofs.RoomLemmas.{room_less, room_below}
 use Rattle.concept_walk.specs.declared.gathering.Gathering.{Gathering}
 use Rattle.concept_walk.specs.declared.steps.Step.{Step}
-use Rattle.concept_walk.specs.declared.steps.Descent.TheVariants.{End, Whole, Below}
+use Rattle.concept_walk.specs.declared.steps.Descent.TheVariants.{End, WholeBranch, Below}
 use Rattle.concept_walk.proofs.LineLemmas.{Fills-append}
 
 -- ---- what is left
@@ -55,7 +55,7 @@ module _ (K : Context) {W : ℕ} (All : List Set) (old gathering new : Gathering
   pub walk_none : HasDescended K gathering new step step End → IsWalk K All old new steps
   walk_none descent = (w.0, descent.0 ∙ w.1, left_none K All step (reverse steps) w.0 left descent.1)
 
-  pub walk_whole : (after : Step W) → HasDescended K gathering new step after Whole → IsWalk K All old new (steps ++ after ∷ [])
+  pub walk_whole : (after : Step W) → HasDescended K gathering new step after WholeBranch → IsWalk K All old new (steps ++ after ∷ [])
   walk_whole after descent = (
     w.0 ++ descent.1.0,
     Fills-append K old gathering new w.0 descent.1.0 w.1 descent.1.1,

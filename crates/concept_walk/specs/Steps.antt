@@ -12,7 +12,7 @@ use Rattle.concept_walk.specs.declared.node.Node.{Node}
 use Rattle.concept_walk.specs.declared.gathering.Gathering.{Gathering}
 use Rattle.concept_walk.specs.declared.steps.Step.{Step}
 use Rattle.concept_walk.specs.declared.steps.Descent.{Descent}
-use Rattle.concept_walk.specs.declared.steps.Descent.TheVariants.{End, Whole, Below}
+use Rattle.concept_walk.specs.declared.steps.Descent.TheVariants.{End, WholeBranch, Below}
 
 -- the step is at an intent, with what is needed to find its children
 pub record IsStep (K : Context) {W : ℕ} (step : Step W) : Type 0 where
@@ -21,7 +21,7 @@ pub record IsStep (K : Context) {W : ℕ} (step : Step W) : Type 0 where
   pub places : take step.count step.places.items ≡ extent K step.intent
   pub few : step.count ≤ length step.places.items
   pub witnesses : AreWitnesses K step.intent step.witnesses.items
-  pub noted : AreWitnesses K step.intent step.scratch.noted.items
+  pub noted : AreWitnesses K step.intent step.work_lists.noted.items
   pub candidates : AreCandidates K step.intent step.candidates
   pub order : step.from ≤ step.candidates.end
 
@@ -49,7 +49,7 @@ HasEntered K old new node (Some left) = AreCandidates K node.intent.now left × 
 abbrev pub HasDescended : Context → {W : ℕ} → Gathering W → Gathering W → Step W → Step W → Descent W → Type 0
 HasDescended K old new before after End =
     (new.concepts ≡ old.concepts) × (branch K before.intent before.from ≡ branch K before.intent before.candidates.end)
-HasDescended K old new before after Whole =
+HasDescended K old new before after WholeBranch =
     IsFurther K before after × ((Xs : List Set) × Fills K old new Xs
     × (branch K before.intent after.candidates.end ≡ branch K before.intent before.candidates.end ++ Xs))
 HasDescended K old new before after (Below step) =

@@ -12,8 +12,8 @@ use crate::cross_table::CrossTable;
 use crate::gathering::Gathering;
 use crate::node::{Candidates, Node};
 use crate::notes::{begin_notes, known_witnesses};
-use crate::scratch::{WorkListPool, WorkLists};
 use crate::steps::{Descent, enter, first_step, next_step, put_back};
+use crate::work_lists::{WorkListPool, WorkLists};
 use attr_bits::Bits;
 use extent_places::{closure_at, last_member};
 use fca_model::Memory;
@@ -52,7 +52,7 @@ pub fn gather_branch<const W: usize>(
     while let Some(mut step) = steps.pop() {
         match next_step(alloc, crosses, gathering, &mut step, pool)? {
             Descent::End => put_back(step, &mut pool.spare)?,
-            Descent::Whole => steps.push(step)?,
+            Descent::WholeBranch => steps.push(step)?,
             Descent::Below(deeper) => {
                 steps.push(step)?;
                 steps.push(deeper)?;
@@ -67,23 +67,23 @@ pub fn next_child<const W: usize>(
     crosses: &CrossTable<'_, W>,
     node: &Node<'_, W>,
     candidates: &Candidates<W>,
-    scratch: &mut WorkLists,
+    work_lists: &mut WorkLists,
 ) -> Result<Option<LargerIntent<W>>, Memory>
     requires node { IsNode crosses.now node.now }
     requires candidates { AreCandidates crosses.now node.now.intent.now candidates.now }
     requires order { node.now.from ≤ candidates.now.end }
-    requires noted { AreWitnesses crosses.now node.now.intent.now scratch.old.noted.items }
+    requires noted { AreWitnesses crosses.now node.now.intent.now work_lists.old.noted.items }
     ensures between { IfOk result (λ met. IfSome met (λ child. (node.now.from ≤ child.attribute) × (child.attribute < candidates.now.end))) }
     ensures wide { IfOk result (λ met. IfSome met (λ child. length child.intent ≡ crosses.now.width)) }
     ensures closed { IfOk result (λ met. IfSome met (λ child. is_closed crosses.now child.intent ≡ true)) }
-    ensures places { IfOk result (λ met. IfSome met (λ child. take child.count scratch.new.found.items ≡ extent crosses.now child.intent)) }
-    ensures few { IfOk result (λ met. IfSome met (λ child. child.count ≤ length scratch.new.found.items)) }
+    ensures places { IfOk result (λ met. IfSome met (λ child. take child.count work_lists.new.found.items ≡ extent crosses.now child.intent)) }
+    ensures few { IfOk result (λ met. IfSome met (λ child. child.count ≤ length work_lists.new.found.items)) }
     ensures larger { IfOk result (λ met. IfSome met (λ child. within node.now.intent.now child.intent ≡ true)) }
     ensures splits { IfOk result (λ met. MatchOption met
         (branch crosses.now node.now.intent.now node.now.from ≡ branch crosses.now node.now.intent.now candidates.now.end)
         (λ child. branch crosses.now node.now.intent.now child.attribute
         ≡ branch crosses.now node.now.intent.now candidates.now.end ++ branch crosses.now child.intent (child.attribute + 1))) }
-    ensures noted { OnOk result (AreWitnesses crosses.now node.now.intent.now scratch.new.noted.items) }
+    ensures noted { OnOk result (AreWitnesses crosses.now node.now.intent.now work_lists.new.noted.items) }
 {
     let rows = crosses.rows();
     let a = node.intent;
@@ -94,11 +94,11 @@ pub fn next_child<const W: usize>(
             rows,
             a,
             i,
-            known_witnesses(crosses, a, node.witnesses, &scratch.noted),
+            known_witnesses(crosses, a, node.witnesses, &work_lists.noted),
         ) {
             continue;
         }
-        let met = child_at(crosses, node, i, scratch)?;
+        let met = child_at(crosses, node, i, work_lists)?;
         if let Some(child) = met {
             return Ok(Some(child));
         }
@@ -112,33 +112,33 @@ fn child_at<const W: usize>(
     crosses: &CrossTable<'_, W>,
     node: &Node<'_, W>,
     i: u32,
-    scratch: &mut WorkLists,
+    work_lists: &mut WorkLists,
 ) -> Result<Option<LargerIntent<W>>, Memory>
     requires node { IsNode crosses.now node.now }
     requires inside { i < crosses.now.width }
     requires lacks { slice_index_or node.now.intent.now i false ≡ false }
-    requires noted { AreWitnesses crosses.now node.now.intent.now scratch.old.noted.items }
+    requires noted { AreWitnesses crosses.now node.now.intent.now work_lists.old.noted.items }
     ensures wide { IfOk result (λ met. IfSome met (λ child. length child.intent ≡ crosses.now.width)) }
     ensures closed { IfOk result (λ met. IfSome met (λ child. is_closed crosses.now child.intent ≡ true)) }
-    ensures places { IfOk result (λ met. IfSome met (λ child. take child.count scratch.new.found.items ≡ extent crosses.now child.intent)) }
-    ensures few { IfOk result (λ met. IfSome met (λ child. child.count ≤ length scratch.new.found.items)) }
+    ensures places { IfOk result (λ met. IfSome met (λ child. take child.count work_lists.new.found.items ≡ extent crosses.now child.intent)) }
+    ensures few { IfOk result (λ met. IfSome met (λ child. child.count ≤ length work_lists.new.found.items)) }
     ensures attribute { IfOk result (λ met. IfSome met (λ child. child.attribute ≡ i)) }
     ensures larger { IfOk result (λ met. IfSome met (λ child. within node.now.intent.now child.intent ≡ true)) }
     ensures splits { IfOk result (λ met. MatchOption met
         (branch crosses.now node.now.intent.now i ≡ branch crosses.now node.now.intent.now (i + 1))
         (λ child. branch crosses.now node.now.intent.now i
         ≡ branch crosses.now node.now.intent.now (i + 1) ++ branch crosses.now child.intent (i + 1))) }
-    ensures noted { OnOk result (AreWitnesses crosses.now node.now.intent.now scratch.new.noted.items) }
+    ensures noted { OnOk result (AreWitnesses crosses.now node.now.intent.now work_lists.new.noted.items) }
 {
     let rows = crosses.rows();
     let a = node.intent;
     let _width = rows.width();
-    have_room(&mut scratch.found, node.places.len())?;
-    let larger = closure_with(crosses, node, i, &mut scratch.found);
+    have_room(&mut work_lists.found, node.places.len())?;
+    let larger = closure_with(crosses, node, i, &mut work_lists.found);
     if is_child(rows, a, i, &larger.intent) {
         return Ok(Some(larger));
     }
-    begin_notes(crosses, a, node.witnesses, &mut scratch.noted)?;
+    begin_notes(crosses, a, node.witnesses, &mut work_lists.noted)?;
     note(
         rows,
         a,
@@ -146,7 +146,7 @@ fn child_at<const W: usize>(
         &larger.intent,
         node.from,
         crosses.supports(),
-        &mut scratch.noted,
+        &mut work_lists.noted,
     );
     Ok(None)
 }

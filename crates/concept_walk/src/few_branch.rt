@@ -12,10 +12,10 @@ use crate::cross_table::CrossTable;
 use crate::gathering::Gathering;
 use crate::node::Node;
 use crate::notes::{begin_notes, known_witnesses};
-use crate::scratch::{WorkListPool, WorkLists, take_lists};
+use crate::work_lists::{WorkListPool, WorkLists, take_lists};
 use attr_bits::Bits;
 use extent_places::{
-    FEW_OBJECTS, FewObjects, ObjectSet, SmallConcept, attributes_to_try, last_member,
+    FEW_OBJECTS, FewConcept, FewObjects, ObjectSet, attributes_to_try, last_member,
 };
 use fca_model::Memory;
 use lectic_concepts::{is_child, is_to_try, note, pass_witnesses};
@@ -81,25 +81,25 @@ fn gather_few<const W: usize>(
     let rows = crosses.rows();
     let a = node.intent;
     let mut end = rows.width();
-    let mut scratch = take_lists(alloc, spare);
-    few.put_places(rows, a, node.objects, &mut scratch.found)?;
-    gathering.add(crosses, a, &scratch.found)?;
-    let tries = attributes_to_try(rows, a, &scratch.found);
+    let mut work_lists = take_lists(alloc, spare);
+    few.put_places(rows, a, node.objects, &mut work_lists.found)?;
+    gathering.add(crosses, a, &work_lists.found)?;
+    let tries = attributes_to_try(rows, a, &work_lists.found);
     while let Some(i) = last_member(&tries, node.from, end) {
         end = i;
         if !is_to_try(
             rows,
             a,
             i,
-            known_witnesses(crosses, a, node.witnesses, &scratch.noted),
+            known_witnesses(crosses, a, node.witnesses, &work_lists.noted),
         ) {
             continue;
         }
-        let met = few_child_at(crosses, few, node, i, &mut scratch.noted)?;
+        let met = few_child_at(crosses, few, node, i, &mut work_lists.noted)?;
         let Some(child) = met else {
             continue;
         };
-        let known = known_witnesses(crosses, a, node.witnesses, &scratch.noted);
+        let known = known_witnesses(crosses, a, node.witnesses, &work_lists.noted);
         let below = FewNode {
             intent: &child.intent,
             objects: &child.objects,
@@ -108,7 +108,7 @@ fn gather_few<const W: usize>(
         };
         gather_few(alloc, crosses, few, gathering, &below, spare)?;
     }
-    spare.push(scratch)?;
+    spare.push(work_lists)?;
     Ok(())
 }
 
@@ -119,7 +119,7 @@ fn few_child_at<const W: usize>(
     node: &FewNode<'_, W>,
     i: u32,
     noted: &mut Vec<u32>,
-) -> Result<Option<SmallConcept<W>>, Memory>
+) -> Result<Option<FewConcept<W>>, Memory>
     requires node { IsFewNode crosses.now few.now node.now }
     requires inside { i < crosses.now.width }
     requires lacks { slice_index_or node.now.intent.now i false ≡ false }

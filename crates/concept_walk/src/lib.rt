@@ -8,8 +8,8 @@ mod gathering;
 mod names;
 mod node;
 mod notes;
-mod scratch;
 mod steps;
+mod work_lists;
 
 pub use branch::{LargerIntent, gather_branch, next_child};
 pub use cross_table::CrossTable;
@@ -17,4 +17,4 @@ pub use gathering::Gathering;
 pub use names::{attribute_pieces, table_names};
 pub use node::{Candidates, Node};
 pub use notes::known_witnesses;
-pub use scratch::{WorkListPool, WorkLists};
+pub use work_lists::{WorkListPool, WorkLists};

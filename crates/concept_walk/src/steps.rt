@@ -12,7 +12,7 @@ use crate::few_branch::gather_apart;
 use crate::gathering::Gathering;
 use crate::node::{Candidates, Node};
 use crate::notes::known_witnesses;
-use crate::scratch::{WorkListPool, WorkLists, take_lists};
+use crate::work_lists::{WorkListPool, WorkLists, take_lists};
 use attr_bits::Bits;
 use extent_places::{attributes_to_try, last_member, pays_to_set_apart};
 use fca_model::Memory;
@@ -36,7 +36,7 @@ pub(crate) struct Step<const W: usize> {
     /// The attributes from which a child may come.
     pub(crate) candidates: Candidates<W>,
     /// The lists to write on while a child is looked for.
-    pub(crate) scratch: WorkLists,
+    pub(crate) work_lists: WorkLists,
 }
 
 /// The outcome of the search for the next child.
@@ -45,7 +45,7 @@ pub(crate) enum Descent<const W: usize> {
     /// No child is left.
     End,
     /// A child, whose whole branch was gathered.
-    Whole,
+    WholeBranch,
     /// A child, whose concept was added, and below which others may be.
     Below(Step<W>),
 }
@@ -104,7 +104,7 @@ pub(crate) fn first_step<const W: usize>(
         from: node.from,
         witnesses: lists.noted,
         candidates,
-        scratch: take_lists(alloc, &mut pool.spare),
+        work_lists: take_lists(alloc, &mut pool.spare),
     })
 }
 
@@ -126,32 +126,37 @@ pub(crate) fn next_step<const W: usize>(
         from: step.from,
         witnesses: &step.witnesses,
     };
-    let met = next_child(crosses, &node, &step.candidates, &mut step.scratch)?;
+    let met = next_child(crosses, &node, &step.candidates, &mut step.work_lists)?;
     let Some(child) = met else {
         return Ok(Descent::End);
     };
     step.candidates.end = child.attribute;
-    let known = known_witnesses(crosses, &step.intent, &step.witnesses, &step.scratch.noted);
+    let known = known_witnesses(
+        crosses,
+        &step.intent,
+        &step.witnesses,
+        &step.work_lists.noted,
+    );
     let passed = pass_witnesses(crosses.rows(), &step.intent, known, &child.intent);
     let below = Node {
         intent: &child.intent,
-        places: &step.scratch.found[..child.count],
+        places: &step.work_lists.found[..child.count],
         from: child.attribute + 1,
         witnesses: passed,
     };
     let Some(candidates) = enter(alloc, crosses, gathering, &below, pool)? else {
-        return Ok(Descent::Whole);
+        return Ok(Descent::WholeBranch);
     };
     let mut lists = take_lists(alloc, &mut pool.spare);
     lists.noted.extend_from_slice(passed)?;
     Ok(Descent::Below(Step {
         intent: child.intent,
-        places: replace(&mut step.scratch.found, lists.found),
+        places: replace(&mut step.work_lists.found, lists.found),
         count: child.count,
         from: child.attribute + 1,
         witnesses: lists.noted,
         candidates,
-        scratch: take_lists(alloc, &mut pool.spare),
+        work_lists: take_lists(alloc, &mut pool.spare),
     }))
 }
 
@@ -160,7 +165,7 @@ pub(crate) fn put_back<const W: usize>(
     step: Step<W>,
     spare: &mut Vec<WorkLists>,
 ) -> Result<(), Memory> {
-    spare.push(step.scratch)?;
+    spare.push(step.work_lists)?;
     spare.push(WorkLists {
         found: step.places,
         noted: step.witnesses,

@@ -19,7 +19,7 @@ use Rattle.fca_model.specs.Sets.{Set, within, meet, full, same, strictly_within}
 use Rattle.fca_model.specs.Context.{Context}
 use Rattle.fca_model.proofs.ListLemmas.{list_all_from, implies_from}
 use Rattle.fca_model.proofs.SetLemmas.{within_trans, within_full, within_at_place, within-meet, strictly-parts}
-use Rattle.context_reduce.specs.Blocks.{block, AreBlocks}
+use Rattle.context_reduce.specs.Blocks.{row_block, AreBlocks}
 use Rattle.context_reduce.specs.Reduce.{column, transpose, meet_of_strictly_larger}
 use Rattle.context_reduce.proofs.PartLemmas.{within-map, transposed_at}
 use Rattle.context_reduce.proofs.ReduceLemmas.{columns_count}
@@ -106,22 +106,22 @@ module _ (X : Set) where
     meet_before n = fold meet (full K.width) (filter (strictly_within X) (take n K.rows))
 
     -- a block more
-    pub meet_more : (k : ℕ) (M N : Set) → M ≡ meet_before (k * 256) → N ≡ fold meet M (filter (strictly_within X) (block K k).rows)
+    pub meet_more : (k : ℕ) (M N : Set) → M ≡ meet_before (k * 256) → N ≡ fold meet M (filter (strictly_within X) (row_block K k).rows)
         → N ≡ meet_before ((k + 1) * 256)
     meet_more k M N m n =
-        n ∙ ap (λ A. fold meet A (filter (strictly_within X) (block K k).rows)) m
+        n ∙ ap (λ A. fold meet A (filter (strictly_within X) (row_block K k).rows)) m
         ∙ sym (ap meet_before (next k) ∙ ap (λ Rs. fold meet (full K.width) (filter (strictly_within X) Rs)) (take-add (k * 256) 256 K.rows)
-        ∙ ap (fold meet (full K.width)) (filter-append (strictly_within X) (take (k * 256) K.rows) (block K k).rows)
+        ∙ ap (fold meet (full K.width)) (filter-append (strictly_within X) (take (k * 256) K.rows) (row_block K k).rows)
         ∙ fold-append meet (full K.width) (filter (strictly_within X) (take (k * 256) K.rows))
-        (filter (strictly_within X) (block K k).rows))
+        (filter (strictly_within X) (row_block K k).rows))
       where
         next : (k : ℕ) → (k + 1) * 256 ≡ k * 256 + 256
         next k = omega arith
 
     -- a block with no row that contains X
-    pub meet_skips : (k : ℕ) (M : Set) → M ≡ meet_before (k * 256) → list_any (within X) (block K k).rows ≡ false
+    pub meet_skips : (k : ℕ) (M : Set) → M ≡ meet_before (k * 256) → list_any (within X) (row_block K k).rows ≡ false
         → M ≡ meet_before ((k + 1) * 256)
-    meet_skips k M m none = meet_more k M M m (sym (ap (fold meet M) (none_larger (block K k).rows none)))
+    meet_skips k M m none = meet_more k M M m (sym (ap (fold meet M) (none_larger (row_block K k).rows none)))
 
     -- all blocks
     pub meet_whole : (n : ℕ) (M : Set) → M ≡ meet_before n → length K.rows ≤ n → M ≡ meet_of_strictly_larger K X
@@ -138,10 +138,10 @@ module _ (X : Set) where
 
 -- ---- the blocks
 
-pub blocks_are : (K : Context) (blocks : List Context) (n : ℕ) → blocks ≡ map (λ k. transpose (block K k)) (range_with_len 0 n)
+pub blocks_are : (K : Context) (blocks : List Context) (n : ℕ) → blocks ≡ map (λ k. transpose (row_block K k)) (range_with_len 0 n)
     → n ≡ div_ceil (length K.rows) 256 → AreBlocks K blocks
 blocks_are K blocks n e is =
-    let f = λ (k : ℕ). transpose (block K k) in
+    let f = λ (k : ℕ). transpose (row_block K k) in
     let count : length blocks ≡ n = ap length e ∙ length-map-range_with_len f 0 n in
     let bounds = div_ceil_times (length K.rows) 256 (omega arith) in
     let all = ap (λ m. m * 256) (count ∙ is) in
@@ -152,9 +152,9 @@ blocks_are K blocks n e is =
     }
 
 module _ (K : Context) (blocks : List Context) (are : AreBlocks K blocks) where
-  pub block_at : (k : ℕ) (C : Context) → k < length blocks → C ≡ get_or blocks k C → C ≡ transpose (block K k)
+  pub block_at : (k : ℕ) (C : Context) → k < length blocks → C ≡ get_or blocks k C → C ≡ transpose (row_block K k)
   block_at k C l is = is ∙ ap (λ Bs. get_or Bs k C) are.columns
-      ∙ get_or-map-range_with_len (λ k. transpose (block K k)) 0 (length blocks) k k C l (omega arith)
+      ∙ get_or-map-range_with_len (λ k. transpose (row_block K k)) 0 (length blocks) k k C l (omega arith)
 
   pub block_wide : (k : ℕ) (C : Context) → k < length blocks → C ≡ get_or blocks k C → length C.rows ≡ K.width
-  block_wide k C l is = ap (λ (D : Context). length D.rows) (block_at k C l is) ∙ columns_count (block K k)
+  block_wide k C l is = ap (λ (D : Context). length D.rows) (block_at k C l is) ∙ columns_count (row_block K k)

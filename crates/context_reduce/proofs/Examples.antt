@@ -5,7 +5,7 @@ use Rattle.std.specs.List.{flat_map}
 use Rattle.fca_model.specs.Context.{Context}
 use Rattle.fca_model.specs.Tables.{NamedContext}
 use Rattle.fca_model.proofs.DrawnSets.{s}
-use Rattle.context_reduce.specs.Reduce.{part, distinct_objects, distinct_attributes, irreducible_objects, irreducible_attributes}
+use Rattle.context_reduce.specs.Reduce.{context_part, distinct_objects, distinct_attributes, irreducible_objects, irreducible_attributes}
 use Rattle.context_reduce.specs.Arrows.{arrow_table}
 use Rattle.context_reduce.specs.Texts.{object_line}
 
@@ -29,7 +29,7 @@ pub reduced_three : (irreducible_objects three_rows ≡ 0 ∷ 1 ∷ []) × (irre
 unfolding irreducible_objects distinct_objects
 reduced_three = (refl, refl)
 
-pub part_of_three : part three_rows (0 ∷ 1 ∷ []) (1 ∷ 2 ∷ []) ≡ record { width = 2; rows = s (codes "X.") ∷ s (codes ".X") ∷ [] }
+pub part_of_three : context_part three_rows (0 ∷ 1 ∷ []) (1 ∷ 2 ∷ []) ≡ record { width = 2; rows = s (codes "X.") ∷ s (codes ".X") ∷ [] }
 part_of_three = refl
 
 pub arrows_of_three : flat_map (object_line (named three_rows) (arrow_table three_rows)) (0 ∷ 1 ∷ 2 ∷ []) ≡ codes "XXb g\nXbX h\nXuu k\n"

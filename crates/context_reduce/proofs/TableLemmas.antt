@@ -10,7 +10,7 @@ use Rattle.std.specs.List.{range_with_len}
 use Rattle.fca_model.specs.Sets.{Set}
 use Rattle.fca_model.specs.Context.{Context}
 use Rattle.fca_model.specs.Tables.{Text, NamedContext}
-use Rattle.context_reduce.specs.Reduce.{row_at, rows_at, read, names_at, ascend, transpose, is_first, reducible, distinct_objects}
+use Rattle.context_reduce.specs.Reduce.{row_at, rows_at, restrict_to, names_at, ascend, transpose, is_first, reducible, distinct_objects}
 use Rattle.context_reduce.specs.Reduce.{distinct_attributes, irreducible_objects, irreducible_attributes, AreItsPlaces}
 use Rattle.context_reduce.proofs.DenseLemmas.{irreducible_is}
 use Rattle.context_reduce.proofs.RangeLemmas.{append_nil, filter_push}
@@ -37,13 +37,13 @@ names_more names items places k name old new e l o at n =
 
 -- one row more
 pub rows_more : (K : Context) (N items places : List ℕ) (k : ℕ) (made : Set) (old new : List Set) → items ≡ places → k < length items
-    → old ≡ map (read N) (rows_at K (take k places)) → made ≡ read N (row_at K (get_or items k 0)) → new ≡ old ++ made ∷ []
-    → new ≡ map (read N) (rows_at K (take (k + 1) places))
+    → old ≡ map (restrict_to N) (rows_at K (take k places)) → made ≡ restrict_to N (row_at K (get_or items k 0)) → new ≡ old ++ made ∷ []
+    → new ≡ map (restrict_to N) (rows_at K (take (k + 1) places))
 rows_more K N items places k made old new e l o at n =
     n ∙ ap₂ (λ Zs Z. Zs ++ Z ∷ []) o at
-    ∙ sym (ap (λ ps. map (read N) (rows_at K ps)) (taken items places k e l)
-    ∙ ap (map (read N)) (map_push (row_at K) (take k places) (get_or items k 0))
-    ∙ map_push (read N) (rows_at K (take k places)) (row_at K (get_or items k 0)))
+    ∙ sym (ap (λ ps. map (restrict_to N) (rows_at K ps)) (taken items places k e l)
+    ∙ ap (map (restrict_to N)) (map_push (row_at K) (take k places) (get_or items k 0))
+    ∙ map_push (restrict_to N) (rows_at K (take k places)) (row_at K (get_or items k 0)))
 
 -- ---- places that are kept
 

@@ -59,16 +59,16 @@ irreducible_attributes K = irreducible_objects (transpose K)
 -- ---- parts
 
 -- the members of A among the attributes N, read as places in N
-abbrev pub read : List ℕ → Set → Set
-read N A = map (λ i. slice_index_or A i false) N
+abbrev pub restrict_to : List ℕ → Set → Set
+restrict_to N A = map (λ i. slice_index_or A i false) N
 
 -- the rows of the objects H
 abbrev pub rows_at : Context → List ℕ → List Set
 rows_at K H = map (row_at K) H
 
 -- the objects H and the attributes N alone
-abbrev pub part : Context → List ℕ → List ℕ → Context
-part K H N = record { width = length N; rows = map (read N) (rows_at K H) }
+abbrev pub context_part : Context → List ℕ → List ℕ → Context
+context_part K H N = record { width = length N; rows = map (restrict_to N) (rows_at K H) }
 
 -- f is one to one from the intents of K onto those of P, and keeps inclusion both ways
 pub record IsIsomorphism (K P : Context) (f : Set → Set) : Type 0 where
@@ -80,7 +80,7 @@ pub record IsIsomorphism (K P : Context) (f : Set → Set) : Type 0 where
 
 -- the intents of the part of the objects H and the attributes N are those of K, read at N
 abbrev pub KeepsIntents : Context → List ℕ → List ℕ → Type 0
-KeepsIntents K H N = IsIsomorphism K (part K H N) (read N)
+KeepsIntents K H N = IsIsomorphism K (context_part K H N) (restrict_to N)
 
 -- ---- arrows
 
@@ -119,7 +119,7 @@ table_part t H N = record {
   title = t.title;
   objects = names_at t.objects H;
   attributes = names_at t.attributes N;
-  context = part t.context H N;
+  context = context_part t.context H N;
 }
 
 -- the numbers ascend strictly from at least a and are below n

@@ -7,7 +7,7 @@ ghost use Rattle.std.specs.Prelude.{◌≡◌, ◌≤◌, ◌<◌, ◌*◌, IfOk
 ghost use Rattle.std.specs.List.{list_any};
 ghost use Rattle.fca_model.specs.Sets.{meet, within, strictly_within};
 ghost use Rattle.fca_model.specs.Context.{Context};
-ghost use Rattle.context_reduce.specs.Blocks.{block, AreBlocks};
+ghost use Rattle.context_reduce.specs.Blocks.{row_block, AreBlocks};
 ghost use Rattle.context_reduce.specs.Reduce.{transpose, column, meet_of_strictly_larger};
 
 use attr_bits::Bits;
@@ -16,7 +16,7 @@ use fca_model::Memory;
 use std::alloc::Global;
 
 /// The number of rows of a block: as many as four words hold.
-const BLOCK: usize = 256;
+const BLOCK_ROWS: usize = 256;
 
 /// The columns of a block, each a set of its rows.
 pub(crate) type ColumnBlock = RowsOf<4>;
@@ -29,7 +29,7 @@ pub(crate) fn blocks_of<const W: usize>(
     ensures { IfOk result (λ blocks. AreBlocks rows.now blocks.items) }
 {
     let mut blocks = Vec::new(alloc);
-    for k in 0..rows.len().div_ceil(BLOCK) {
+    for k in 0..rows.len().div_ceil(BLOCK_ROWS) {
         blocks.push(columns_of(alloc, rows, k)?)?;
     }
     Ok(blocks)
@@ -41,11 +41,11 @@ fn columns_of<const W: usize>(
     rows: &RowsOf<W>,
     k: usize,
 ) -> Result<ColumnBlock, Memory>
-    requires { k * BLOCK ≤ length rows.now.rows }
-    ensures { IfOk result (λ columns. columns ≡ transpose (block rows.now k)) }
+    requires { k * BLOCK_ROWS ≤ length rows.now.rows }
+    ensures { IfOk result (λ columns. columns ≡ transpose (row_block rows.now k)) }
 {
     let width = rows.width();
-    let part = block(rows, k);
+    let part = row_block(rows, k);
     let mut columns = ColumnBlock::new(alloc, part.len() as u32)?;
     for m in 0..width {
         columns.push(column_of(part, m))?;
@@ -55,7 +55,7 @@ fn columns_of<const W: usize>(
 
 /// Which of the rows have attribute m.
 fn column_of<const W: usize>(rows: &[Bits<W>], m: u32) -> Bits<4>
-    requires few { length rows.now ≤ BLOCK }
+    requires few { length rows.now ≤ BLOCK_ROWS }
     requires place { All (λ row. m < length row) rows.now }
     ensures { result ≡ map (λ row. slice_index_or row m false) rows.now }
 {
@@ -69,14 +69,14 @@ fn column_of<const W: usize>(rows: &[Bits<W>], m: u32) -> Bits<4>
 }
 
 /// The rows of block k.
-fn block<const W: usize>(rows: &RowsOf<W>, k: usize) -> &[Bits<W>]
-    requires { k * BLOCK ≤ length rows.now.rows }
-    ensures rows { result.now ≡ (block rows.now k).rows }
-    ensures few { length result.now ≤ BLOCK }
+fn row_block<const W: usize>(rows: &RowsOf<W>, k: usize) -> &[Bits<W>]
+    requires { k * BLOCK_ROWS ≤ length rows.now.rows }
+    ensures rows { result.now ≡ (row_block rows.now k).rows }
+    ensures few { length result.now ≤ BLOCK_ROWS }
     ensures even { All (λ row. length row ≡ rows.now.width) result.now }
 {
-    let rest = &rows.as_slice()[k * BLOCK..];
-    &rest[..BLOCK.min(rest.len())]
+    let rest = &rows.as_slice()[k * BLOCK_ROWS..];
+    &rest[..BLOCK_ROWS.min(rest.len())]
 }
 
 /// The intersection of the rows that strictly contain the set. After it has become the set, the blocks that are left change nothing.
@@ -92,7 +92,7 @@ pub(crate) fn meet_of_strictly_larger<const W: usize>(
     let mut met = Bits::full(rows.width());
     for k in 0..blocks.len() {
         if may_contain(&blocks[k], set) {
-            met = meet_with_larger(set, block(rows, k), &met);
+            met = meet_with_larger(set, row_block(rows, k), &met);
             if met.within(set) {
                 return met;
             }

@@ -27,7 +27,7 @@ use std::sync::Wait;
 use std::thread::Threads;
 
 /// An exploration by oracles, as it ended.
-pub struct Explored {
+pub struct ExplorationByOracles {
     /// The exploration, with its journal.
     pub explore: Explore,
     /// The oracles in the order of their numbers, with what they dropped.
@@ -37,7 +37,7 @@ pub struct Explored {
 }
 
 /// Written by hand: to drop an exploration by oracles is then one call, and not the code of each list at every exit.
-impl Drop for Explored {
+impl Drop for ExplorationByOracles {
     fn drop(self) {
         let Self {
             explore: _,
@@ -55,7 +55,7 @@ pub fn explore_with_oracles<R: Threads + Wait + Sync>(
     explore: Explore,
     experts: Vec<Table>,
     turns: u64,
-) -> Result<Explored, Memory>
+) -> Result<ExplorationByOracles, Memory>
     requires new { explore.journal ≡ [] }
     requires holders { explore.opening.settings.holders ≡ MAX_EXPERTS }
     requires experts { explore.opening.experts ≡ vec_len experts }
@@ -106,7 +106,7 @@ fn run_oracles<R: Threads + Wait + Sync>(
     gate: Gate,
     passes: Vec<ExpertPass>,
     oracles: Vec<Oracle>,
-) -> Result<Explored, Memory>
+) -> Result<ExplorationByOracles, Memory>
     requires passes { map badge passes.items ≡ roll gate }
     requires fresh { All IsFresh passes.items }
     requires some { 1 ≤ gate.passes }
@@ -123,7 +123,7 @@ fn run_oracles<R: Threads + Wait + Sync>(
     }
     let spent = any_spent(&seats);
     let (passes, oracles) = split_seats(alloc, seats)?;
-    Ok(Explored {
+    Ok(ExplorationByOracles {
         explore: gate.close(passes),
         oracles,
         spent,

@@ -9,6 +9,6 @@ mod panel;
 mod seat;
 
 pub use end::SeatEnd;
-pub use explored::{Explored, explore_with_oracles};
+pub use explored::{ExplorationByOracles, explore_with_oracles};
 pub use panel::run_panel;
 pub use seat::{Seat, seat_experts};

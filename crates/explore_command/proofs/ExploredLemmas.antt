@@ -30,7 +30,7 @@ use Rattle.oracle_expert.specs.Runs.{OracleMoment, start, moment_after, moment_a
 use Rattle.oracle_expert.proofs.CountLemmas.{oracle_turns}
 use Rattle.oracle_expert.proofs.DrawLemmas.{recorded_between, runs_on}
 use Rattle.fca_model.specs.declared.Memory.{Memory}
-use Rattle.expert_panel.specs.declared.explored.Explored.{Explored}
+use Rattle.expert_panel.specs.declared.explored.ExplorationByOracles.{ExplorationByOracles}
 use Rattle.expert_panel.specs.Explorations.{IsOraclesShare, EachNumbered, HasAgreed}
 use Rattle.explore_state.specs.History.{Opening, ExploreModel, opening_state, state_of, open_of}
 use Rattle.basis_report.specs.Comments.{comments as comments_of, are_lines, AreComments}
@@ -126,17 +126,17 @@ length-explored p explore oracles spent explored =
     ∙ sym (ap (λ (o : Opening). o.experts) explored.opening)
 
 -- what came of the oracles of the experts' tables, opened so
-pub explored-oracles : (p : ExploreStart) (o : Opening) (n : ℕ) (output : Result Explored Memory) → MayOpen p.table p.settings
-    → o ≡ opening_of p.table n p.settings → n ≡ length p.tables
+pub explored-oracles : (p : ExploreStart) (o : Opening) (n : ℕ) (output : Result ExplorationByOracles Memory) → MayOpen p.table p.settings
+    → o ≡ opening_of p.table n p.settings → n ≡ length p.expert_tables
     → IfOk output (λ r. r.explore.opening ≡ o)
     → IfOk output (λ r. IsLegal (opening_state r.explore.opening) r.explore.journal)
-    → IfOk output (λ r. map (λ oracle. oracle.table) r.oracles.items ≡ p.tables)
+    → IfOk output (λ r. map (λ oracle. oracle.table) r.oracles.items ≡ p.expert_tables)
     → IfOk output (λ r. EachNumbered (IsOraclesShare MAX_TURNS r.explore.journal) r.oracles.items)
     → IfOk output (λ r. (e : ℕ) → (e ≡ 0) ⊎ (n < e) → own r.explore.journal e ≡ [])
     → IfOk output (λ r. (r.spent ≡ true) ↔ ((e : ℕ) × (1 ≤ e) × (e ≤ n) × (ends_done (own r.explore.journal e) ≡ false)))
     → IfOk output (λ r. r.spent ≡ false → open_of r.explore ≡ [])
     → IfOk output (λ r. MAX_TURNS ≡ 2 ^ 48 → o.table.context.width ≤ MAX_SURVEYED → r.spent ≡ false)
-    → IfOk output (λ r. (C : Context) → All (λ expert. HasIntentsOf C expert.context) p.tables → are_intents C o.table.context.rows ≡ true
+    → IfOk output (λ r. (C : Context) → All (λ expert. HasIntentsOf C expert.context) p.expert_tables → are_intents C o.table.context.rows ≡ true
     → rows_respect o.settings.known C ≡ true
     → HasAgreed C r.explore r.oracles.items r.spent)
     → IfOk output (λ r. HasExplored p r.explore r.oracles.items r.spent)
@@ -237,16 +237,16 @@ explored_text-explored p explore oracles spent explored =
     (rules_of (state_after (opening_state o) (events_of H))) dropped in
     let dropped = dropped-oracles H 1 oracles (λ k oracle at. (explored.shares k oracle at).conflicts) in
     ap (λ o. text o (map with_conflicts oracles)) explored.opening
-    ∙ ap (text (opening_of p.table (length p.tables) p.settings)) (dropped ∙ ap (dropped_in H 1) explored.tables)
+    ∙ ap (text (opening_of p.table (length p.expert_tables) p.settings)) (dropped ∙ ap (dropped_in H 1) explored.tables)
 
 agreed-explored : (p : ExploreStart) (explore : ExploreModel) (oracles : List Recall) (spent : Bool) (text : Text)
     → HasExplored p explore oracles spent → text ≡ text_with_conflicts explore oracles
-    → (C : Context) → All (λ (D : NamedContext). HasIntentsOf C D.context) p.tables → are_intents C p.table.context.rows ≡ true
+    → (C : Context) → All (λ (D : NamedContext). HasIntentsOf C D.context) p.expert_tables → are_intents C p.table.context.rows ≡ true
     → rows_respect p.settings.known C ≡ true → spent ≡ false
     → text ≡ recorded_text p explore.journal ++ basis_alone p.table.attributes (basis_known p.settings.known C)
 agreed-explored p explore oracles spent text explored whole C same part respected unspent =
     let H = explore.journal in
-    let o : Opening = opening_of p.table (length p.tables) p.settings in
+    let o : Opening = opening_of p.table (length p.expert_tables) p.settings in
     let agreed = explored.agreed C same part respected in
     let B = basis_known p.settings.known C in
     let legal : IsLegal (opening_state o) H = subst (λ (x : Opening). IsLegal (opening_state x) H) explored.opening explored.legal in
@@ -264,12 +264,12 @@ agreed-explored p explore oracles spent text explored whole C same part respecte
     ∙ agreed_text p.table p.settings H C (conflicts_section p.table.attributes B []) explored.may.respected legal done same_basis
 
 IsExploredText-explored : (p : ExploreStart) (explore : ExploreModel) (oracles : List Recall) (spent : Bool) (text : Text)
-    → is_expert (length p.tables) ≡ true
+    → is_expert (length p.expert_tables) ≡ true
     → HasExplored p explore oracles spent → text ≡ text_with_conflicts explore oracles
     → Spells explore.opening.table explore.opening.settings explore.journal text → IsExploredText p text spent
 IsExploredText-explored p explore oracles spent text expert explored whole spelled =
     let H = explore.journal in
-    let o : Opening = opening_of p.table (length p.tables) p.settings in
+    let o : Opening = opening_of p.table (length p.expert_tables) p.settings in
     let legal : IsLegal (opening_state o) H = let P : Opening → Type 0 = λ x. IsLegal (opening_state x) H in
     subst P explored.opening explored.legal in
     let SpellsText : Opening → Type 0 = λ x. Spells x.table x.settings H text in
@@ -279,7 +279,7 @@ IsExploredText-explored p explore oracles spent text expert explored whole spell
       history = H;
       whole = whole ∙ explored_text-explored p explore oracles spent explored;
       spells = spells;
-      course = legal-course p.table (length p.tables) p.settings H expert explored.may.respected explored.may.writable.known legal;
+      course = legal-course p.table (length p.expert_tables) p.settings H expert explored.may.respected explored.may.writable.known legal;
       shares = (let P : List NamedContext → Type 0 = EachNumbered (IsShare H) in
           let few : is_expert (length oracles) ≡ true =
           ap is_expert (sym (length-map oracles (λ (oracle : Recall). oracle.table)) ∙ ap length explored.tables) ∙ expert in
@@ -296,7 +296,7 @@ IsExploredText-explored p explore oracles spent text expert explored whole spell
 
 -- an output that tells of the exploration
 pub MayExplore-explored : (p : ExploreStart) (explore : ExploreModel) (oracles : List Recall) (spent : Bool) (output : Result Output Memory)
-    → is_expert (length p.tables) ≡ true
+    → is_expert (length p.expert_tables) ≡ true
     → HasExplored p explore oracles spent
     → IfOk output (λ output. output.text ≡ text_with_conflicts explore oracles)
     → IfOk output (λ output. Spells explore.opening.table explore.opening.settings explore.journal output.text)

@@ -233,7 +233,7 @@ memory-experts table place (file ∷ files) tells rises s e = let P : Stop → T
 
 -- what it starts from with these experts, where this is the start
 abbrev explore_start_of : Start → Bool → List Text → List NamedContext → ExploreStart
-explore_start_of start names files tables = record { table = start.table; settings = settings_by start.known names files; tables = tables }
+explore_start_of start names files tables = record { table = start.table; settings = settings_by start.known names files; expert_tables = tables }
 
 -- the same, where the tables are read
 abbrev explore_start_by : Start → Bool → List Text → Reading (List NamedContext) → Reading ExploreStart

@@ -42,13 +42,13 @@ dropped_in H e (D ∷ experts) = (D, conflicts_of D (own H e)) ∷ dropped_in H 
 
 -- the exploration of the start's table that has this history
 abbrev pub exploring_record : ExploreStart → List SetEntry → Exploration
-exploring_record start H = record { opening = opening_of start.table (length start.tables) start.settings; journal = H }
+exploring_record start H = record { opening = opening_of start.table (length start.expert_tables) start.settings; journal = H }
 
 -- its text, and the conflicts
 abbrev pub explored_text : ExploreStart → List SetEntry → Text
 explored_text start H =
     explore_text start.table start.settings H
-    ++ conflicts_text start.table.attributes (rules_of (last_state (exploring_record start H))) (dropped_in H 1 start.tables)
+    ++ conflicts_text start.table.attributes (rules_of (last_state (exploring_record start H))) (dropped_in H 1 start.expert_tables)
 
 -- what its text says before the open questions
 abbrev pub recorded_text : ExploreStart → List SetEntry → Text
@@ -70,12 +70,12 @@ pub record IsExploredText (start : ExploreStart) (text : Text) (spent : Bool) : 
   pub whole : text ≡ explored_text start history
   pub spells : Spells start.table start.settings history text
   pub course : IsExplored (exploring_record start history)
-  pub shares : EachNumbered (IsShare history) start.tables
-  pub others : (e : ℕ) → (e ≡ 0) ⊎ (length start.tables < e) → own history e ≡ []
-  pub unfinished : (spent ≡ true) ↔ ((e : ℕ) × (1 ≤ e) × (e ≤ length start.tables) × (ends_done (own history e) ≡ false))
+  pub shares : EachNumbered (IsShare history) start.expert_tables
+  pub others : (e : ℕ) → (e ≡ 0) ⊎ (length start.expert_tables < e) → own history e ≡ []
+  pub unfinished : (spent ≡ true) ↔ ((e : ℕ) × (1 ≤ e) × (e ≤ length start.expert_tables) × (ends_done (own history e) ≡ false))
   pub finished : spent ≡ false → last_open (exploring_record start history) ≡ []
   pub unspent : start.table.context.width ≤ MAX_SURVEYED → spent ≡ false
-  pub agreed : (C : Context) → All (λ D. HasIntentsOf C D.context) start.tables → are_intents C start.table.context.rows ≡ true
+  pub agreed : (C : Context) → All (λ D. HasIntentsOf C D.context) start.expert_tables → are_intents C start.table.context.rows ≡ true
       → rows_respect start.settings.known C ≡ true → spent ≡ false
       → text ≡ recorded_text start history ++ basis_alone start.table.attributes (basis_known start.settings.known C)
 
@@ -93,15 +93,15 @@ text_with_conflicts explore oracles = explore_text explore.opening.table explore
 -- an exploration of the start's table by oracles of the experts' tables, as it ended
 pub record HasExplored (start : ExploreStart) (explore : ExploreModel) (oracles : List Recall) (spent : Bool) : Type 0 where
   pub may : MayOpen start.table start.settings
-  pub opening : explore.opening ≡ opening_of start.table (length start.tables) start.settings
+  pub opening : explore.opening ≡ opening_of start.table (length start.expert_tables) start.settings
   pub legal : IsLegal (opening_state explore.opening) explore.journal
-  pub tables : map (λ oracle. oracle.table) oracles ≡ start.tables
+  pub tables : map (λ oracle. oracle.table) oracles ≡ start.expert_tables
   pub shares : EachNumbered (IsOraclesShare MAX_TURNS explore.journal) oracles
-  pub others : (e : ℕ) → (e ≡ 0) ⊎ (length start.tables < e) → own explore.journal e ≡ []
-  pub unfinished : (spent ≡ true) ↔ ((e : ℕ) × (1 ≤ e) × (e ≤ length start.tables) × (ends_done (own explore.journal e) ≡ false))
+  pub others : (e : ℕ) → (e ≡ 0) ⊎ (length start.expert_tables < e) → own explore.journal e ≡ []
+  pub unfinished : (spent ≡ true) ↔ ((e : ℕ) × (1 ≤ e) × (e ≤ length start.expert_tables) × (ends_done (own explore.journal e) ≡ false))
   pub finished : spent ≡ false → open_of explore ≡ []
   pub unspent : start.table.context.width ≤ MAX_SURVEYED → spent ≡ false
-  pub agreed : (C : Context) → All (λ D. HasIntentsOf C D.context) start.tables → are_intents C start.table.context.rows ≡ true
+  pub agreed : (C : Context) → All (λ D. HasIntentsOf C D.context) start.expert_tables → are_intents C start.table.context.rows ≡ true
       → rows_respect start.settings.known C ≡ true → HasAgreed C explore oracles spent
 
 -- ---- the output

@@ -26,7 +26,7 @@ use Rattle.command_io.specs.declared.stop.Stop.TheVariants.{OtherAttributes, Mem
 pub record ExploreStart : Type 0 where
   pub table : NamedContext
   pub settings : Settings
-  pub tables : List NamedContext
+  pub expert_tables : List NamedContext
 
 -- settings that a text can spell, whose known implications the table's rows respect, and under which all experts may hold one question
 pub record MayOpen (table : NamedContext) (s : Settings) : Type 0 where
@@ -80,7 +80,7 @@ abbrev pub explore_read : Text → Option Text → Bool → List Text → (Text 
 explore_read file known wants_names files tells =
     then (start_read file known tells) (λ start.
     then (experts_read start.table files tells) (λ tables.
-    Read (record { table = start.table; settings = settings_by start.known wants_names files; tables = tables })))
+    Read (record { table = start.table; settings = settings_by start.known wants_names files; expert_tables = tables })))
 
 -- ---- why they are not read
 

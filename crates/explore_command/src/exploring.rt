@@ -18,7 +18,7 @@ use crate::start::{ExploreStart, load_explore_start};
 use basis_report::{conflicts_text, explore_pieces, explore_text};
 use command_io::{Ending, Output, Stop, Text};
 use context_table::Table;
-use expert_panel::{Explored, explore_with_oracles};
+use expert_panel::{ExplorationByOracles, explore_with_oracles};
 use explore_state::{Explore, Settings, SideBySide};
 use fca_io::Shelf;
 use fca_model::{MAX_TURNS, Memory, Word};
@@ -55,8 +55,8 @@ fn explore_output<R: Threads + Wait + Sync>(
     alloc: Global,
     start: ExploreStart,
 ) -> Result<Output, Memory>
-    requires count { is_expert (length start.tables) ≡ true }
-    requires wide { All (λ expert. expert.context.width ≡ start.table.context.width) start.tables }
+    requires count { is_expert (length start.expert_tables) ≡ true }
+    requires wide { All (λ expert. expert.context.width ≡ start.table.context.width) start.expert_tables }
     ensures { IfOk result (MayExplore (Read start)) }
 {
     let explored = explore_by_oracles(rt, alloc, start)?;
@@ -70,18 +70,22 @@ fn explore_by_oracles<R: Threads + Wait + Sync>(
     rt: &R,
     alloc: Global,
     start: ExploreStart,
-) -> Result<Explored, Memory>
-    requires count { is_expert (length start.tables) ≡ true }
-    requires wide { All (λ expert. expert.context.width ≡ start.table.context.width) start.tables }
+) -> Result<ExplorationByOracles, Memory>
+    requires count { is_expert (length start.expert_tables) ≡ true }
+    requires wide { All (λ expert. expert.context.width ≡ start.table.context.width) start.expert_tables }
     ensures { IfOk result (λ r. HasExplored start r.explore r.oracles.items r.spent) }
 {
-    let count = start.tables.len() as u8;
+    let count = start.expert_tables.len() as u8;
     let explore = open_exploration(rt, alloc, start.table, count, start.settings)?;
-    explore_with_oracles(rt, alloc, explore, start.tables, MAX_TURNS)
+    explore_with_oracles(rt, alloc, explore, start.expert_tables, MAX_TURNS)
 }
 
 /// The text of the exploration with the conflicts of its oracles, and its ending.
-fn output_of<R: Threads>(rt: &R, alloc: Global, explored: &Explored) -> Result<Output, Memory>
+fn output_of<R: Threads>(
+    rt: &R,
+    alloc: Global,
+    explored: &ExplorationByOracles,
+) -> Result<Output, Memory>
     requires count { vec_len explored.now.oracles ≤ explored.now.explore.opening.experts }
     requires writable { SettingsCanBeWritten explored.now.explore.opening.table.context.width explored.now.explore.opening.settings }
     ensures text { IfOk result (λ output. output.text ≡ text_with_conflicts explored.now.explore explored.now.oracles.items) }
@@ -100,7 +104,11 @@ fn output_of<R: Threads>(rt: &R, alloc: Global, explored: &Explored) -> Result<O
 }
 
 /// The text of the exploration in pieces, which several threads make, and the conflicts of its oracles.
-fn text_in_pieces<R: Threads>(rt: &R, alloc: Global, explored: &Explored) -> Result<Text, Memory>
+fn text_in_pieces<R: Threads>(
+    rt: &R,
+    alloc: Global,
+    explored: &ExplorationByOracles,
+) -> Result<Text, Memory>
     requires count { vec_len explored.now.oracles ≤ explored.now.explore.opening.experts }
     requires writable { SettingsCanBeWritten explored.now.explore.opening.table.context.width explored.now.explore.opening.settings }
     ensures text { IfOk result (λ text. text ≡ text_with_conflicts explored.now.explore explored.now.oracles.items) }
@@ -113,7 +121,7 @@ fn text_in_pieces<R: Threads>(rt: &R, alloc: Global, explored: &Explored) -> Res
 }
 
 /// The text of the exploration and the conflicts of its oracles, in one piece.
-fn whole_text(alloc: Global, explored: &Explored) -> Result<Text, Memory>
+fn whole_text(alloc: Global, explored: &ExplorationByOracles) -> Result<Text, Memory>
     requires count { vec_len explored.now.oracles ≤ explored.now.explore.opening.experts }
     requires writable { SettingsCanBeWritten explored.now.explore.opening.table.context.width explored.now.explore.opening.settings }
     ensures text { IfOk result (λ text. text ≡ text_with_conflicts explored.now.explore explored.now.oracles.items) }

@@ -29,7 +29,7 @@ pub struct ExploreStart {
     /// What is known of it, how many experts may hold one question, and the names of the experts.
     pub(crate) settings: Settings,
     /// The tables of the experts, in the order of their files.
-    pub(crate) tables: Vec<Table>,
+    pub(crate) expert_tables: Vec<Table>,
 }
 
 impl Model for ExploreStart {
@@ -39,7 +39,7 @@ impl Model for ExploreStart {
 
     ghost Value = { TheStart };
 
-    ghost view = { λ start. record { table = start.table; settings = settings_of start.settings; tables = start.tables.items } };
+    ghost view = { λ start. record { table = start.table; settings = settings_of start.settings; expert_tables = start.expert_tables.items } };
 
     ghost invariant = { λ start. record {
       wide : start.settings.known.width ≡ start.table.context.width;
@@ -59,8 +59,8 @@ pub fn load_explore_start<H: Shelf>(
 ) -> Result<ExploreStart, Stop>
     requires { is_expert (length files.now) ≡ true }
     ensures start { IfOk result (λ start. MayRead (explore_read file.now (option_copied known.entry) wants_names files.now (H.tells shelf.old)) start) }
-    ensures count { IfOk result (λ start. length start.tables ≡ length files.now) }
-    ensures wide { IfOk result (λ start. All (λ expert. expert.context.width ≡ start.table.context.width) start.tables) }
+    ensures count { IfOk result (λ start. length start.expert_tables ≡ length files.now) }
+    ensures wide { IfOk result (λ start. All (λ expert. expert.context.width ≡ start.table.context.width) start.expert_tables) }
     ensures refused { IfErr result (λ stop. IsRefusal stop → MayRefuse (explore_read file.now (option_copied known.entry) wants_names files.now (H.tells shelf.old))) }
     ensures cause { IfErr result (IsExploreStop file.now (option_copied known.entry) files.now (H.tells shelf.old)
         (Rises (H.faults shelf.old) (H.faults shelf.new))) }
@@ -69,7 +69,7 @@ pub fn load_explore_start<H: Shelf>(
 {
     let names = names_by_files(alloc, wants_names, files)?;
     let start = load_start(alloc, shelf, file, known)?;
-    let tables = load_experts(alloc, shelf, &start.table, files)?;
+    let tables = load_expert_tables(alloc, shelf, &start.table, files)?;
     Ok(explore_start_of(start, names, tables))
 }
 
@@ -80,7 +80,7 @@ fn explore_start_of(start: Start, names: ExpertNames, tables: Vec<Table>) -> Exp
     ensures { result ≡ record {
       table = start.table;
       settings = record { known = start.known.members; holders = MAX_EXPERTS; expert_names = names };
-      tables = tables.items;
+      expert_tables = tables.items;
     } }
 {
     ExploreStart {
@@ -90,12 +90,12 @@ fn explore_start_of(start: Start, names: ExpertNames, tables: Vec<Table>) -> Exp
             holders: MAX_EXPERTS,
             names,
         },
-        tables,
+        expert_tables: tables,
     }
 }
 
 /// Reads the tables of the experts, and checks that they have the attributes of the table.
-fn load_experts<H: Shelf>(
+fn load_expert_tables<H: Shelf>(
     alloc: Global,
     shelf: &mut H,
     table: &Table,
@@ -113,14 +113,14 @@ fn load_experts<H: Shelf>(
 {
     let mut tables = Vec::new(alloc);
     for (place, file) in files.iter().enumerate() {
-        let expert_table = load_expert(alloc, shelf, table, file, Origin::Later(place))?;
+        let expert_table = load_expert_table(alloc, shelf, table, file, Origin::Later(place))?;
         tables.push(expert_table)?;
     }
     Ok(tables)
 }
 
 /// Reads the table of an expert, and checks that it has the attributes of the table.
-fn load_expert<H: Shelf>(
+fn load_expert_table<H: Shelf>(
     alloc: Global,
     shelf: &mut H,
     table: &Table,

@@ -24,7 +24,7 @@ pub struct FewObjects<const W: usize> {
 
 /// An intent with its extent, a set of few objects.
 #[derive(Drop)]
-pub struct SmallConcept<const W: usize> {
+pub struct FewConcept<const W: usize> {
     /// The intent.
     pub intent: Bits<W>,
     /// Its extent.
@@ -79,7 +79,7 @@ impl<const W: usize> FewObjects<W> {
         a: &Bits<W>,
         objects: &ObjectSet,
         i: u32,
-    ) -> SmallConcept<W>
+    ) -> FewConcept<W>
         requires wide { length a.now ≡ rows.now.width }
         requires inside { i < rows.now.width }
         requires objects { AreFew rows.now a.now self.now objects.now }
@@ -89,7 +89,7 @@ impl<const W: usize> FewObjects<W> {
         let _width = rows.width();
         let objects = objects_with(&self.rows, &self.columns, a, objects, i);
         let intent = meet_of(&self.rows, &objects, &a.with(i));
-        SmallConcept { intent, objects }
+        FewConcept { intent, objects }
     }
 
     /// Puts the places of the objects of a into the list, in place of what it had.

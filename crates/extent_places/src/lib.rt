@@ -10,7 +10,7 @@ mod places;
 mod tries;
 
 pub use columns::Columns;
-pub use few::{FewObjects, SmallConcept, pays_to_set_apart};
+pub use few::{FewConcept, FewObjects, pays_to_set_apart};
 pub use members::{has, insert, lacks, with, without};
 pub use objects::{
     FEW_OBJECTS, ObjectSet, closure_of, columns_of, have_all, objects_above, objects_with,

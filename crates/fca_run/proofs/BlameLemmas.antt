@@ -18,7 +18,7 @@ use Rattle.command_io.specs.declared.stop.Origin.{Origin}
 use Rattle.command_io.specs.declared.stop.Origin.TheVariants.{File, Later, Input}
 use Rattle.command_io.specs.declared.stop.Stop.{Stop}
 use Rattle.command_io.specs.declared.stop.Stop.TheVariants.{NoCommand, NoScript, RowBreaks, UnknownAttribute, OtherAttributes, ReadFault}
-use Rattle.command_io.specs.declared.stop.Stop.TheVariants.{Listener, Memory}
+use Rattle.command_io.specs.declared.stop.Stop.TheVariants.{ListenerFault, Memory}
 use Rattle.expert_scripts.specs.Scripts.{ScriptContent}
 use Rattle.expert_scripts.specs.declared.fault.ScriptFault.TheVariants.{BadLine}
 use Rattle.replay_command.specs.Replayed.{IsSettingsStop, IsInputStop, IsReplayStop}
@@ -36,31 +36,31 @@ named R L s known blamed e = subst (IsBlamed R L) (sym e) blamed
 module _ (rose R L : Type 0) (more : rose → R) where
   file-blamed : (name : Text) (told : Told) (origin : Origin) (s : Stop) → IsFileStop name told rose origin s → IsBlamed R L s
   file-blamed name told origin NoCommand is = absurd is
-  file-blamed name told origin Listener is = absurd is
+  file-blamed name told origin ListenerFault is = absurd is
   file-blamed name told origin (ReadFault at) is = more is.1
   file-blamed name told origin _ is = tt
 
   values-blamed : (told : Told) (origin : Origin) (s : Stop) → IsValuesStop told rose origin s → IsBlamed R L s
   values-blamed told origin NoCommand is = absurd is
-  values-blamed told origin Listener is = absurd is
+  values-blamed told origin ListenerFault is = absurd is
   values-blamed told origin (ReadFault at) is = more is.1
   values-blamed told origin _ is = tt
 
   plan-blamed : (t : ValueTable) (told : Told) (origin : Origin) (s : Stop) → IsPlanStop t told rose origin s → IsBlamed R L s
   plan-blamed t told origin NoCommand is = absurd is
-  plan-blamed t told origin Listener is = absurd is
+  plan-blamed t told origin ListenerFault is = absurd is
   plan-blamed t told origin (ReadFault at) is = more is.1
   plan-blamed t told origin _ is = tt
 
   implications-blamed : (n : ℕ) (told : Told) (s : Stop) → IsImplicationsStop n told rose s → IsBlamed R L s
   implications-blamed n told NoCommand is = absurd is
-  implications-blamed n told Listener is = absurd is
+  implications-blamed n told ListenerFault is = absurd is
   implications-blamed n told (ReadFault at) is = more is.1
   implications-blamed n told _ is = tt
 
   script-blamed : (n : ℕ) (input : Option Text) (s : Stop) → IsScriptStop n input rose s → IsBlamed R L s
   script-blamed n input NoCommand is = absurd is
-  script-blamed n input Listener is = absurd is
+  script-blamed n input ListenerFault is = absurd is
   script-blamed n input (ReadFault at) is = more is.1
   script-blamed n input _ is = tt
 
@@ -132,7 +132,7 @@ module _ (counts counts' : Text → ℕ) (R L : Type 0) where
       → (SomeRose counts counts' (file ∷ option_to_list known) → R)
       → IsServeStop file known files (Rises counts counts') L s → IsBlamed R L s
   serve-blamed file known files s more (inl is) = start-blamed file known files s more is
-  serve-blamed file known files s more (inr later) = named R L s Listener later.3 later.0
+  serve-blamed file known files s more (inr later) = named R L s ListenerFault later.3 later.0
 
   scale-blamed : (values plan : Text) (files : Text → Told) (s : Stop) → (SomeRose counts counts' (values ∷ plan ∷ []) → R)
       → IsScaleStop values plan files (Rises counts counts') s → IsBlamed R L s
@@ -193,7 +193,7 @@ given-stops : {X : Type 0} (reading : Reading X) (R L : Type 0) (s : Stop) → I
     → IsGiven reading → (s ≡ Memory) ⊎ (R ⊎ L)
 given-stops reading R L NoCommand blamed refused given = absurd blamed
 given-stops reading R L (ReadFault origin) blamed refused given = inr (inl blamed)
-given-stops reading R L Listener blamed refused given = inr (inr blamed)
+given-stops reading R L ListenerFault blamed refused given = inr (inr blamed)
 given-stops reading R L Memory blamed refused given = inl refl
 given-stops reading R L _ blamed refused given = absurd (given-refused reading (refused tt) given)
 

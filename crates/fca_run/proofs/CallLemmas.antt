@@ -18,7 +18,7 @@ use Rattle.fca_command.specs.declared.command.Command.TheVariants.{Scale, Replay
 use Rattle.context_table.specs.declared.recipe.Recipe.{Recipe}
 use Rattle.command_io.specs.Readings.{Reading, then, MayRead, MayRefuse, Rises, SameCounts}
 use Rattle.command_io.specs.Readings.Reading.{Read}
-use Rattle.command_io.specs.Causes.{UnlessReadFault, UnlessListener}
+use Rattle.command_io.specs.Causes.{UnlessReadFault, UnlessListenerFault}
 use Rattle.command_io.specs.Known.{Start, start_read}
 use Rattle.command_io.specs.Endings.{Output, Outcome, finished, ending_of, IsRefusal, IsUnread, IsOfFile, MayBecome}
 use Rattle.command_io.specs.Endings.Outcome.{Written, CutOff, Stopped}
@@ -30,7 +30,7 @@ use Rattle.command_io.specs.Streams.{Moment, GainsLine, HasConcluded}
 use Rattle.command_io.specs.declared.output.Ending.{Ending}
 use Rattle.command_io.specs.declared.output.Ending.TheVariants.{Finished, Open, Spent}
 use Rattle.command_io.specs.declared.stop.Stop.{Stop}
-use Rattle.command_io.specs.declared.stop.Stop.TheVariants.{Listener, Memory}
+use Rattle.command_io.specs.declared.stop.Stop.TheVariants.{ListenerFault, Memory}
 use Rattle.command_io.proofs.ReadingLemmas.{refused_then}
 use Rattle.command_io.proofs.QuietLemmas.{unless_fault, unless_listener}
 use Rattle.command_io.proofs.FetchLemmas.{fetched_none}
@@ -60,8 +60,8 @@ any-ok (Err e) P p = tt
 module _ {H S L E : Type 0} (output : Result Output Stop) where
   quiet_with : (old new : Outside H S L E) → UnlessReadFault output (SameCounts old.shelf.faults new.shelf.faults)
       → UnlessReadFault output (new.input.faults ≡ old.input.faults)
-      → UnlessListener output (SameCounts old.link.open_faults new.link.open_faults)
-      → UnlessListener output (new.link.accept_faults ≡ old.link.accept_faults)
+      → UnlessListenerFault output (SameCounts old.link.open_faults new.link.open_faults)
+      → UnlessListenerFault output (new.link.accept_faults ≡ old.link.accept_faults)
       → IsQuiet output old new
   quiet_with old new files input addresses accepting = record { files = files; input = input; addresses = addresses; accepting = accepting }
 
@@ -157,8 +157,8 @@ module _ {E : Type 0} (end_sides : Sides E) where
   serve-back : (reading : Reading Start) (experts holders : ℕ) (old new : Option (Ends E)) (output : Result Output Stop)
       → IfOk output (MayServe end_sides.left end_sides.held end_sides.reads end_sides.read_faults end_sides.write_faults reading experts holders old new)
       → IfErr output (λ stop. GaveAllBack end_sides.left end_sides.held end_sides.reads end_sides.read_faults end_sides.write_faults experts old new
-      (stop ≡ Listener))
-      → GaveAllBack end_sides.left end_sides.held end_sides.reads end_sides.read_faults end_sides.write_faults experts old new (output ≡ Err Listener)
+      (stop ≡ ListenerFault))
+      → GaveAllBack end_sides.left end_sides.held end_sides.reads end_sides.read_faults end_sides.write_faults experts old new (output ≡ Err ListenerFault)
   serve-back reading experts holders old new (Ok output) serve back =
       let is = serve.2 in
       let many = is.count in
@@ -176,7 +176,7 @@ module _ {E : Type 0} (end_sides : Sides E) where
     ends = back.ends;
     talked = back.talked;
     few = back.few;
-    fewer = λ failed. (let listener : stop ≡ Listener = cc in back.fewer listener);
+    fewer = λ failed. (let listener : stop ≡ ListenerFault = cc in back.fewer listener);
   }
 
 module _ {H S D E : Type 0} (end_sides : Sides E) (s s' : ShelfMoment H) (input : Moment S) (link link' : LinkMoment D E) where
@@ -189,11 +189,11 @@ module _ {H S D E : Type 0} (end_sides : Sides E) (s s' : ShelfMoment H) (input 
       (Rises link.open_faults link'.open_faults listen ⊎ Rose link.accept_faults link'.accept_faults))
       → IfErr output (λ stop. (IsUnread stop → link' ≡ link))
       → IfErr output (λ stop. GaveAllBack end_sides.left end_sides.held end_sides.reads end_sides.read_faults end_sides.write_faults experts link.ends link'.ends
-      (stop ≡ Listener))
+      (stop ≡ ListenerFault))
       → UnlessReadFault output (SameCounts s.faults s'.faults)
       → RoseAtMost s.fetches s'.fetches (length (file ∷ option_to_list known))
-      → UnlessListener output (SameCounts link.open_faults link'.open_faults)
-      → UnlessListener output (link'.accept_faults ≡ link.accept_faults)
+      → UnlessListenerFault output (SameCounts link.open_faults link'.open_faults)
+      → UnlessListenerFault output (link'.accept_faults ≡ link.accept_faults)
       → ComesTo end_sides (Serve file known experts holders listen) (outside s input link) (outside s' input link') output
   serve-comes file known experts holders listen output answers listening refuses causes unread back quiet few quiet_open quiet_accept =
       let command : Command = Serve file known experts holders listen in

@@ -59,15 +59,15 @@ tells opened r later text may printed spells explored = record {
 
 -- by oracles of experts' tables
 pub explore-tells : (reading : Reading ExploreStart) (output : Output) → MayExplore reading output
-    → TellsExploration (then reading (λ p. Read (opening_of p.table (length p.tables) p.settings))) output.text
+    → TellsExploration (then reading (λ p. Read (opening_of p.table (length p.expert_tables) p.settings))) output.text
 explore-tells reading output explored =
     let p = explored.start in
     let is = explored.is in
-    tells (then reading (λ q. Read (opening_of q.table (length q.tables) q.settings))) (exploring_record p is.history)
-    (conflicts_text p.table.attributes (rules_of (last_state (exploring_record p is.history))) (dropped_in is.history 1 p.tables))
+    tells (then reading (λ q. Read (opening_of q.table (length q.expert_tables) q.settings))) (exploring_record p is.history)
+    (conflicts_text p.table.attributes (rules_of (last_state (exploring_record p is.history))) (dropped_in is.history 1 p.expert_tables))
     output.text
-    (read_after reading p (λ q. Read (opening_of q.table (length q.tables) q.settings))
-    (opening_of p.table (length p.tables) p.settings) explored.read refl) is.whole is.spells is.course
+    (read_after reading p (λ q. Read (opening_of q.table (length q.expert_tables) q.settings))
+    (opening_of p.table (length p.expert_tables) p.settings) explored.read refl) is.whole is.spells is.course
 
 -- by a script
 pub replay-tells : (reading : Reading Exploration) (output : Output) → MayReplay reading output

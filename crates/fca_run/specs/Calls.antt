@@ -11,14 +11,14 @@ use Rattle.fca_command.specs.declared.command.Command.{Command}
 use Rattle.fca_command.specs.declared.command.Command.TheVariants.{Scale, Replay, Explore, Serve}
 use Rattle.command_io.specs.Readings.{Reading, then, MayRead, MayRefuse, Rises, SomeRose, SameCounts}
 use Rattle.command_io.specs.Readings.Reading.{Untold, Missing, Refused, Read}
-use Rattle.command_io.specs.Causes.{UnlessReadFault, UnlessListener}
+use Rattle.command_io.specs.Causes.{UnlessReadFault, UnlessListenerFault}
 use Rattle.command_io.specs.Known.{start_read}
 use Rattle.command_io.specs.Endings.{Output, IsRefusal, IsUnread, IsOfFile}
 use Rattle.command_io.specs.Streams.{Moment, HasConcluded}
 use Rattle.command_io.specs.declared.output.Ending.{Ending}
 use Rattle.command_io.specs.declared.output.Ending.TheVariants.{Finished, Open, Spent}
 use Rattle.command_io.specs.declared.stop.Stop.{Stop}
-use Rattle.command_io.specs.declared.stop.Stop.TheVariants.{NoCommand, ReadFault, Listener, Memory}
+use Rattle.command_io.specs.declared.stop.Stop.TheVariants.{NoCommand, ReadFault, ListenerFault, Memory}
 use Rattle.replay_command.specs.Replayed.{IsReplayStop}
 use Rattle.explore_command.specs.Starts.{explore_read, IsExploreStop}
 use Rattle.explore_command.specs.Explored.{MayExplore}
@@ -116,7 +116,7 @@ IsGiven (Read x) = ⊤
 abbrev pub IsBlamed : Type 0 → Type 0 → Stop → Type 0
 IsBlamed rose link_rose NoCommand = ⊥
 IsBlamed rose link_rose (ReadFault origin) = rose
-IsBlamed rose link_rose Listener = link_rose
+IsBlamed rose link_rose ListenerFault = link_rose
 IsBlamed rose link_rose _ = ⊤
 
 -- ---- experts at the ends of a link
@@ -130,7 +130,7 @@ module _ {L E : Type 0} where
   -- if the command serves experts at ends, the accepted ends are given back; if the listener failed, they are fewer than the experts
   abbrev pub HasGivenBack : Sides E → Command → LinkMoment L E → LinkMoment L E → Result Output Stop → Type 0
   HasGivenBack end_sides (Serve file known experts holders listen) old new output =
-      GaveAllBack end_sides.left end_sides.held end_sides.reads end_sides.read_faults end_sides.write_faults experts old.ends new.ends (output ≡ Err Listener)
+      GaveAllBack end_sides.left end_sides.held end_sides.reads end_sides.read_faults end_sides.write_faults experts old.ends new.ends (output ≡ Err ListenerFault)
   HasGivenBack end_sides _ old new output = ⊤
 
 module _ {H S L E : Type 0} where
@@ -160,8 +160,8 @@ module _ {H S L E : Type 0} where
   pub record IsQuiet (output : Result Output Stop) (old new : Outside H S L E) : Type 0 where
     pub files : UnlessReadFault output (SameCounts old.shelf.faults new.shelf.faults)
     pub input : UnlessReadFault output (new.input.faults ≡ old.input.faults)
-    pub addresses : UnlessListener output (SameCounts old.link.open_faults new.link.open_faults)
-    pub accepting : UnlessListener output (new.link.accept_faults ≡ old.link.accept_faults)
+    pub addresses : UnlessListenerFault output (SameCounts old.link.open_faults new.link.open_faults)
+    pub accepting : UnlessListenerFault output (new.link.accept_faults ≡ old.link.accept_faults)
 
   -- What comes of a command agrees with the counts of the outside. A fault is blamed only if its count rose, and no count of faults changes
   -- but by such a fault. No more files are fetched than the command names

@@ -26,7 +26,7 @@ use Rattle.serve_command.specs.Openings.{opening_by}
 abbrev pub opening_read : Command → (Text → Told) → Option Text → Reading Opening
 opening_read (Replay file known) tells input = then (replay_read file known tells input) (λ r. Read r.opening)
 opening_read (Explore file known names experts) tells input =
-    then (explore_read file known names experts tells) (λ start. Read (opening_of start.table (length start.tables) start.settings))
+    then (explore_read file known names experts tells) (λ start. Read (opening_of start.table (length start.expert_tables) start.settings))
 opening_read (Serve file known experts holders listen) tells input =
     then (start_read file known tells) (λ start. Read (opening_by experts holders start))
 opening_read _ tells input = Refused

@@ -80,7 +80,7 @@ fn visit_below<const W: usize>(
             spare.push(step.lists)?;
             continue;
         };
-        let below = next_below(alloc, indexed, known, found, &mut step, i, &mut spare)?;
+        let below = try_attribute(alloc, indexed, known, found, &mut step, i, &mut spare)?;
         steps.push(step)?;
         let Some(below) = below else {
             continue;
@@ -91,7 +91,7 @@ fn visit_below<const W: usize>(
 }
 
 /// Tries attribute i at the step. Returns the step below that comes of it, if there may be more there.
-fn next_below<const W: usize>(
+fn try_attribute<const W: usize>(
     alloc: Global,
     indexed: &IndexedRows<W>,
     known: &ImplicationList,
@@ -108,7 +108,7 @@ fn next_below<const W: usize>(
 {
     let _width = found.width();
     step.end = i;
-    let child = child_at(
+    let child = visit_child_at(
         indexed,
         known,
         found,
@@ -181,7 +181,7 @@ fn is_to_try<const W: usize>(a: &Bits<W>, forced: &[u32], i: u32) -> bool
 
 /// Visits the least set of the family that contains a and attribute i, which a lacks, if the set agrees with a before i. If more is left there, it is behind the
 /// returned intent. The sets below a agree with it before attribute `from`. Where the set does not agree, or its closure does not, what attribute i forces is noted.
-fn child_at<const W: usize>(
+fn visit_child_at<const W: usize>(
     indexed: &IndexedRows<W>,
     known: &ImplicationList,
     found: &mut WatchedList<W>,

@@ -26,7 +26,7 @@ use std::alloc::Global;
 const MANY: usize = 1024;
 
 /// Without implications they share it from this size on.
-const LARGE: u32 = 4;
+const LARGE_SIZE: u32 = 4;
 
 /// Without implications they share it from this many attributes on.
 const WIDE: u32 = 24;
@@ -223,7 +223,7 @@ fn has_many_sets(width: u32, size: u32) -> bool {
     let large = if width >= VERY_WIDE {
         LARGE_IF_VERY_WIDE
     } else {
-        LARGE
+        LARGE_SIZE
     };
     width >= WIDE && size >= large
 }

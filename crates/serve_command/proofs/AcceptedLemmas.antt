@@ -6,7 +6,7 @@ use Rattle.std.specs.Prelude.{option_map}
 use Rattle.std.proofs.lemmas.Bool.{lt-ltb}
 use Rattle.fca_io.specs.Links.{Ends, GivesFirst, with_given, IsWithinRoom}
 use Rattle.command_io.specs.declared.stop.Stop.{Stop}
-use Rattle.command_io.specs.declared.stop.Stop.TheVariants.{Listener, Memory}
+use Rattle.command_io.specs.declared.stop.Stop.TheVariants.{ListenerFault, Memory}
 use Rattle.serve_command.specs.Accepted.{TookFirst, GaveBack, TookAndGave, HasRoomFor, FallsShort}
 
 module _ {E : Type 0} where
@@ -67,7 +67,7 @@ module _ {E : Type 0} where
   }
 
   pub short-some : (count : ℕ) (a c : Option (Ends E)) (taken : List E) (rose : Type 0) (s : Stop) → TookAndGave a c taken taken
-      → length taken < count → rose → s ≡ Listener
+      → length taken < count → rose → s ≡ ListenerFault
       → FallsShort count a c rose s
   short-some count a c taken rose s served fewer risen listener = record {
     taken = taken;
@@ -78,7 +78,7 @@ module _ {E : Type 0} where
     cause = inl listener;
   }
 
-  pub short-none : (count : ℕ) (a b : Option (Ends E)) (rose : Type 0) (s : Stop) → b ≡ a → 1 ≤ count → rose → s ≡ Listener
+  pub short-none : (count : ℕ) (a b : Option (Ends E)) (rose : Type 0) (s : Stop) → b ≡ a → 1 ≤ count → rose → s ≡ ListenerFault
       → FallsShort count a b rose s
   short-none count a b rose s same some risen listener =
       let P : Option (Ends E) → Type 0 = λ x. TookAndGave a x [] [] in

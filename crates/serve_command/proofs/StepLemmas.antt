@@ -14,7 +14,7 @@ use Rattle.command_io.specs.Readings.{MayRead}
 use Rattle.command_io.specs.Known.{Start, start_read}
 use Rattle.command_io.specs.Endings.{Output, IsRefusal, IsUnread}
 use Rattle.command_io.specs.declared.stop.Stop.{Stop}
-use Rattle.command_io.specs.declared.stop.Stop.TheVariants.{Listener, Memory}
+use Rattle.command_io.specs.declared.stop.Stop.TheVariants.{ListenerFault, Memory}
 use Rattle.serve_command.specs.Accepted.{TookFirst, FallsShort}
 use Rattle.serve_command.specs.Served.{IsServeStop, IsOutput, GaveAllBack, HasServedAll, HasReturnedEnds}
 use Rattle.serve_command.proofs.AcceptedLemmas.{TookAndGave-none, TookAndGave-both}
@@ -35,11 +35,11 @@ Rose-between a b c d before rose behind = omega arith
 -- ---- stops
 
 -- what came of the link or of memory is no refusal, and not unread
-pub heard-refused : (s : Stop) (Refuses : Type 0) → (s ≡ Listener) ⊎ (s ≡ Memory) → IsRefusal s → Refuses
+pub heard-refused : (s : Stop) (Refuses : Type 0) → (s ≡ ListenerFault) ⊎ (s ≡ Memory) → IsRefusal s → Refuses
 heard-refused s Refuses (inl e) refusal = absurd (subst IsRefusal e refusal)
 heard-refused s Refuses (inr e) refusal = absurd (subst IsRefusal e refusal)
 
-pub heard : (s : Stop) (Same : Type 0) → (s ≡ Listener) ⊎ (s ≡ Memory) → IsUnread s → Same
+pub heard : (s : Stop) (Same : Type 0) → (s ≡ ListenerFault) ⊎ (s ≡ Memory) → IsUnread s → Same
 heard s Same (inl e) unread = absurd (subst IsUnread e unread)
 heard s Same (inr e) unread = absurd (subst IsUnread e unread)
 
@@ -60,7 +60,7 @@ module _ {E : Type 0} where
   pub short-back : (left held : E → Option Text) (reads : E → Option ℕ) (read_faults write_faults : E → ℕ) (count : ℕ)
       (a b : Option (Ends E))
       (link_rose : Type 0) (s : Stop) → FallsShort count a b link_rose s
-      → GaveAllBack left held reads read_faults write_faults count a b (s ≡ Listener)
+      → GaveAllBack left held reads read_faults write_faults count a b (s ≡ ListenerFault)
   short-back left held reads read_faults write_faults count a b link_rose s short = record {
     before = short.taken;
     after = short.taken;
@@ -73,7 +73,7 @@ module _ {E : Type 0} where
   returned-back : (left held : E → Option Text) (reads : E → Option ℕ) (read_faults write_faults : E → ℕ) (count : ℕ) (a b c : Option (Ends E))
       (before : List E) (s : Stop) → IsWithinRoom a → TookFirst a b before
       → length before ≡ count → HasReturnedEnds left held reads read_faults write_faults before b c → s ≡ Memory
-      → GaveAllBack left held reads read_faults write_faults count a c (s ≡ Listener)
+      → GaveAllBack left held reads read_faults write_faults count a c (s ≡ ListenerFault)
   returned-back left held reads read_faults write_faults count a b c before s within took many risen memory = record {
     before = before;
     after = risen.after;
@@ -88,7 +88,7 @@ module _ {E : Type 0} where
       (before : List E) (r : Result Output Stop) → IsWithinRoom a
       → TookFirst a b before → length before ≡ count → IfErr r (λ _. HasReturnedEnds left held reads read_faults write_faults before b c)
       → IfErr r (λ stop. stop ≡ Memory)
-      → IfErr r (λ stop. GaveAllBack left held reads read_faults write_faults count a c (stop ≡ Listener))
+      → IfErr r (λ stop. GaveAllBack left held reads read_faults write_faults count a c (stop ≡ ListenerFault))
   returned-ends left held reads read_faults write_faults count a b c before (Ok o) within took many risen memory = tt
   returned-ends left held reads read_faults write_faults count a b c before (Err s) within took many risen memory =
       returned-back left held reads read_faults write_faults count a b c before s within took many risen memory
@@ -117,6 +117,6 @@ memory-serve file known files rises link_rose s e = let P : Stop → Type 0 = Is
 
 pub link-serve : (file : Text) (known : Option Text) (files : Text → Told) (rises : Text → Type 0) (link_rose : Type 0) (start : Start)
     (s : Stop) → MayRead (start_read file known files) start
-    → (s ≡ Listener → link_rose) → (s ≡ Listener) ⊎ (s ≡ Memory) → IsServeStop file known files rises link_rose s
+    → (s ≡ ListenerFault → link_rose) → (s ≡ ListenerFault) ⊎ (s ≡ Memory) → IsServeStop file known files rises link_rose s
 link-serve file known files rises link_rose start s may rose (inl e) = inr (e, start, may, rose e)
 link-serve file known files rises link_rose start s may rose (inr e) = memory-serve file known files rises link_rose s e

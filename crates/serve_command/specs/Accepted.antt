@@ -2,7 +2,7 @@
 use Rattle.std.specs.Prelude.{◌≡◌, ◌≤◌, ◌<◌, ◌+◌, ◌⊎◌, ⊤, ℕ, length, Option, None, Some, List, ◌++◌}
 use Rattle.fca_io.specs.Links.{Ends}
 use Rattle.command_io.specs.declared.stop.Stop.{Stop}
-use Rattle.command_io.specs.declared.stop.Stop.TheVariants.{Listener, Memory}
+use Rattle.command_io.specs.declared.stop.Stop.TheVariants.{ListenerFault, Memory}
 
 module _ {E : Type 0} where
   -- these were the first ends to come, and nothing else changed
@@ -32,6 +32,6 @@ module _ {E : Type 0} where
     pub taken : List E
     pub ends : TookAndGave old new taken taken
     pub few : length taken ≤ count
-    pub fewer : stop ≡ Listener → length taken < count
-    pub fault : stop ≡ Listener → rose
-    pub cause : (stop ≡ Listener) ⊎ (stop ≡ Memory)
+    pub fewer : stop ≡ ListenerFault → length taken < count
+    pub fault : stop ≡ ListenerFault → rose
+    pub cause : (stop ≡ ListenerFault) ⊎ (stop ≡ Memory)

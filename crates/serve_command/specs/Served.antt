@@ -18,7 +18,7 @@ use Rattle.command_io.specs.Readings.{Reading, MayRead}
 use Rattle.fca_io.specs.Shelves.{Told}
 use Rattle.command_io.specs.Known.{Start, start_read, IsStartStop}
 use Rattle.command_io.specs.declared.stop.Stop.{Stop}
-use Rattle.command_io.specs.declared.stop.Stop.TheVariants.{Listener}
+use Rattle.command_io.specs.declared.stop.Stop.TheVariants.{ListenerFault}
 use Rattle.command_io.specs.Endings.{Output, ending_of}
 use Rattle.command_io.specs.declared.output.Ending.{Ending}
 use Rattle.command_io.specs.Explorations.{Exploration, last_open, IsExplored}
@@ -109,4 +109,4 @@ module _ {E : Type 0} (left held : E → Option Text) (reads : E → Option ℕ)
 -- the stop for the files, or, if these were read, for the link, whose count of faults rose
 abbrev pub IsServeStop : Text → Option Text → (Text → Told) → (Text → Type 0) → Type 0 → Stop → Type 0
 IsServeStop file known tells rises link_rose stop = IsStartStop file known tells rises stop
-    ⊎ ((stop ≡ Listener) × (start : Start) × MayRead (start_read file known tells) start × link_rose)
+    ⊎ ((stop ≡ ListenerFault) × (start : Start) × MayRead (start_read file known tells) start × link_rose)

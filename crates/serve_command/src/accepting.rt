@@ -4,7 +4,7 @@ ghost use Rattle.std.specs.Prelude.{◌≡◌, ◌≤◌, ◌⊎◌, ℕ, List, 
 ghost use Rattle.fca_io.specs.Faults.{Rose};
 ghost use Rattle.fca_io.specs.Links.{IsWithinRoom, MayListenAt};
 ghost use Rattle.command_io.specs.Readings.{SameCounts};
-ghost use Rattle.command_io.specs.Causes.{UnlessListener};
+ghost use Rattle.command_io.specs.Causes.{UnlessListenerFault};
 ghost use Rattle.serve_command.specs.Accepted.{TookFirst, GaveBack, HasRoomFor, FallsShort};
 
 use command_io::Stop;
@@ -27,11 +27,11 @@ pub fn ends_at<L: Listener>(
     ensures listens { OnOk result ((L.listens link.new ≡ true) × MayListenAt (L.listens_at link.new) address.now) }
     ensures short { IfErr result (λ stop. FallsShort count (L.ends link.old) (L.ends link.new)
         (Rose (L.open_faults link.old address.now) (L.open_faults link.new address.now) ⊎ Rose (L.accept_faults link.old) (L.accept_faults link.new)) stop) }
-    ensures quiet_open { UnlessListener result (SameCounts (L.open_faults link.old) (L.open_faults link.new)) }
-    ensures quiet_accept { UnlessListener result (L.accept_faults link.new ≡ L.accept_faults link.old) }
+    ensures quiet_open { UnlessListenerFault result (SameCounts (L.open_faults link.old) (L.open_faults link.new)) }
+    ensures quiet_accept { UnlessListenerFault result (L.accept_faults link.new ≡ L.accept_faults link.old) }
 {
     if link.open(address).is_err() {
-        return Err(Stop::Listener);
+        return Err(Stop::ListenerFault);
     }
     accept_ends(alloc, link, count)
 }
@@ -49,8 +49,8 @@ fn accept_ends<L: Listener>(alloc: Global, link: &mut L, count: u8) -> Result<Ve
     ensures same { (L.listens link.new ≡ true) × (L.listens_at link.new ≡ L.listens_at link.old) }
     ensures only_rise { (other : List ℕ) → L.open_faults link.old other ≤ L.open_faults link.new other }
     ensures only_rise_accept { L.accept_faults link.old ≤ L.accept_faults link.new }
-    ensures quiet_open { UnlessListener result (SameCounts (L.open_faults link.old) (L.open_faults link.new)) }
-    ensures quiet_accept { UnlessListener result (L.accept_faults link.new ≡ L.accept_faults link.old) }
+    ensures quiet_open { UnlessListenerFault result (SameCounts (L.open_faults link.old) (L.open_faults link.new)) }
+    ensures quiet_accept { UnlessListenerFault result (L.accept_faults link.new ≡ L.accept_faults link.old) }
 {
     let mut ends = Vec::with_capacity(alloc, usize::from(count))?;
     for _number in 0..count {
@@ -58,7 +58,7 @@ fn accept_ends<L: Listener>(alloc: Global, link: &mut L, count: u8) -> Result<Ve
             Ok(end) => ends.push_reserved(end),
             Err(_) => {
                 give_back(link, ends);
-                return Err(Stop::Listener);
+                return Err(Stop::ListenerFault);
             }
         }
     }

@@ -10,7 +10,7 @@ ghost use Rattle.basis_report.specs.Explorations.{explore_text, Spells};
 ghost use Rattle.basis_report.specs.Sessions.{sessions_text};
 ghost use Rattle.expert_scripts.specs.Transcripts.{SettingsCanBeWritten};
 ghost use Rattle.command_io.specs.Readings.{MayRefuse, Rises, SameCounts};
-ghost use Rattle.command_io.specs.Causes.{UnlessReadFault, UnlessListener};
+ghost use Rattle.command_io.specs.Causes.{UnlessReadFault, UnlessListenerFault};
 ghost use Rattle.command_io.specs.Known.{start_read};
 ghost use Rattle.command_io.specs.Endings.{ending_of, IsRefusal, IsUnread};
 ghost use Rattle.serve_command.specs.Openings.{IsNew};
@@ -66,8 +66,8 @@ pub fn serve<R: Threads + Wait + Sync, H: Shelf, L: Listener>(
         (Rises (L.open_faults link.old) (L.open_faults link.new) invitation.now.address.now ⊎ Rose (L.accept_faults link.old) (L.accept_faults link.new))) }
     ensures quiet { UnlessReadFault result (SameCounts (H.faults shelf.old) (H.faults shelf.new)) }
     ensures few { RoseAtMost (H.fetches shelf.old) (H.fetches shelf.new) (length (file.now ∷ option_to_list (option_copied known.entry))) }
-    ensures quiet_open { UnlessListener result (SameCounts (L.open_faults link.old) (L.open_faults link.new)) }
-    ensures quiet_accept { UnlessListener result (L.accept_faults link.new ≡ L.accept_faults link.old) }
+    ensures quiet_open { UnlessListenerFault result (SameCounts (L.open_faults link.old) (L.open_faults link.new)) }
+    ensures quiet_accept { UnlessListenerFault result (L.accept_faults link.new ≡ L.accept_faults link.old) }
     ensures unheard { IfErr result (λ stop. IsUnread stop → link.new ≡ link.old) }
     ensures ends { IfErr result (λ stop. GaveAllBack L.End.Source.left L.End.Sink.held L.End.Source.reads L.End.Source.faults L.End.Sink.faults
         invitation.now.experts (L.ends link.old) (L.ends link.new) (stop ≡ Stop.Listener)) }

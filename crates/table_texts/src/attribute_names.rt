@@ -14,7 +14,7 @@ use std::alloc::Global;
 use std::marker::Model;
 
 /// A set has nearly all attributes if it lacks at most one of so many.
-const NEARLY_ALL: u32 = 4;
+const NEARLY_ALL_DIVISOR: u32 = 4;
 
 /// The names of attributes, each with a comma and a space behind it: as pieces, and in one text with the place at which each begins.
 #[derive(Drop)]
@@ -63,7 +63,7 @@ impl AttributeNames {
         ensures room { length text.new ≡ length text.old }
     {
         let lacking = set.width() - set.size();
-        if lacking <= set.width() / NEARLY_ALL {
+        if lacking <= set.width() / NEARLY_ALL_DIVISOR {
             let end = self.put_nearly_all(text, start, set);
             return end_without_comma(start, end);
         }

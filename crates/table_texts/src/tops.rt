@@ -16,16 +16,16 @@ use lectic_concepts::{own_witnesses, pass_witnesses};
 use std::alloc::Global;
 
 /// So many branches are enough, so none is laid out again.
-const ENOUGH: usize = 2_048;
+const ENOUGH_BRANCHES: usize = 2_048;
 
 /// A large branch seems at least this part of all.
-const LARGE: usize = 128;
+const LARGE_DIVISOR: usize = 128;
 
 /// So many branches are many.
-const MANY: usize = 12;
+const MANY_BRANCHES: usize = 12;
 
 /// The branches overlap if their pairs share at least so many objects.
-const OVERLAP: usize = 512;
+const LEAST_SHARED_OBJECTS: usize = 512;
 
 /// The branch of a node of the tree of intents, with what a walk of it begins with. It owns its places and witnesses, which a `Node` borrows.
 #[derive(Drop)]
@@ -67,7 +67,7 @@ pub(crate) fn least_large_bulk<const W: usize>(tops: &[Top<W>]) -> usize {
     for top in tops {
         whole = whole.saturating_add(top.bulk());
     }
-    whole / LARGE
+    whole / LARGE_DIVISOR
 }
 
 /// The branch of all intents.
@@ -96,7 +96,8 @@ pub(crate) fn root_of<const W: usize>(
 /// Whether it pays to go through the branches side by side: they are many, and they overlap. The answer is the same either way.
 pub(crate) fn pays<const W: usize>(tops: &[Top<W>]) -> bool {
     let most = most_objects(tops);
-    MANY <= tops.len() && OVERLAP.saturating_mul(most) <= overlap_of(tops, most)
+    MANY_BRANCHES <= tops.len()
+        && LEAST_SHARED_OBJECTS.saturating_mul(most) <= overlap_of(tops, most)
 }
 
 /// The most objects of a branch.
@@ -162,7 +163,7 @@ fn split_if_large<const W: usize>(
         ≡ branches crosses.now more.old.items ++ branch crosses.now top.now.intent top.now.from) }
 {
     let _width = crosses.rows().width();
-    if least_bulk <= top.bulk() && more.len() < ENOUGH {
+    if least_bulk <= top.bulk() && more.len() < ENOUGH_BRANCHES {
         return split_branch(alloc, crosses, top, more);
     }
     add_top(alloc, crosses, &top.node(crosses), more)?;
@@ -195,17 +196,17 @@ fn split_branch<const W: usize>(
         witnesses: node.witnesses,
     };
     add_top(alloc, crosses, &alone, more)?;
-    let mut scratch = WorkLists::new(alloc);
+    let mut work_lists = WorkLists::new(alloc);
     while node.from < candidates.end {
-        let met = next_child(crosses, &node, &candidates, &mut scratch)?;
+        let met = next_child(crosses, &node, &candidates, &mut work_lists)?;
         let Some(child) = met else {
             break;
         };
         candidates.end = child.attribute;
-        let known = known_witnesses(crosses, node.intent, node.witnesses, &scratch.noted);
+        let known = known_witnesses(crosses, node.intent, node.witnesses, &work_lists.noted);
         let below = Node {
             intent: &child.intent,
-            places: &scratch.found[..child.count],
+            places: &work_lists.found[..child.count],
             from: child.attribute + 1,
             witnesses: pass_witnesses(rows, node.intent, known, &child.intent),
         };

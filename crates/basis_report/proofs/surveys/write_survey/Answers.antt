@@ -13,5 +13,5 @@ returns c =
     on_ok_weaker c.write_count_line-6.result (λ e. six_pieces _ _ _ _ _ _ _ _ _ _ _ _ _ c.in_ok-write_count_line.ensures
     c.in_ok-write_count_line-2.ensures c.in_ok-write_count_line-3.ensures
     c.in_ok-write_count_line-4.ensures c.in_ok-write_count_line-5.ensures e
-    ∙ ap (λ z. c.args.draft.now ++ z) (same_lines _ _ _ _ _ _ c.args.concepts c.args.basis c.args.explored objects attributes
+    ∙ ap (λ z. c.args.draft.now ++ z) (same_lines _ _ _ _ _ _ c.args.concepts c.args.basis c.args.accepted objects attributes
     c.crosses.ensures)) c.write_count_line-6.ensures

@@ -61,8 +61,8 @@ pub returns-in-ReadFault : goal.returns-in-ReadFault
 returns-in-ReadFault g c = Writes-equal (ap (λ (name : Text). placed_line name (Whole, READ_FAULT.now)) c.name_of-in-ReadFault.ensures
     ∙ ap (stop_line c.args.file.now) (sym c.in-ReadFault.is)) c.write_whole-in-ReadFault.ensures
 
-pub returns-in-Listener : goal.returns-in-Listener
-returns-in-Listener g c = Writes-equal (ap (stop_line c.args.file.now) (sym c.in-Listener.is)) c.write_plain-in-Listener.ensures
+pub returns-in-ListenerFault : goal.returns-in-ListenerFault
+returns-in-ListenerFault g c = Writes-equal (ap (stop_line c.args.file.now) (sym c.in-Listener.is)) c.write_plain-in-Listener.ensures
 
 pub returns-in-Memory : goal.returns-in-Memory
 returns-in-Memory g c = Writes-equal (ap (stop_line c.args.file.now) (sym c.in-Memory.is)) c.write_plain-in-Memory.ensures

@@ -26,28 +26,28 @@ loop-step-preserved-in_ok-put_back-in-End g c =
     walk_none K All c.args.gathering.now c.loop-step.gathering c.next_step.new.gathering steps c.in-Some-pop.step walk
     (rw c.in-End.is at c.in_ok-next_step.ensures)
 
-pub loop-step-smaller-in_ok-push-in-Whole : goal.loop-step-smaller-in_ok-push-in-Whole
-loop-step-smaller-in_ok-push-in-Whole g c =
+pub loop-step-smaller-in_ok-push-in-WholeBranch : goal.loop-step-smaller-in_ok-push-in-WholeBranch
+loop-step-smaller-in_ok-push-in-WholeBranch g c =
     let K : Context = c.args.crosses.now in
     let All : List Set = branch K c.args.node.now.intent.now c.args.node.now.from in
     let steps : List (Step g.row.W) = c.pop.new.self.items in
     let walk = subst (λ (xs : List (Step g.row.W)). IsWalk K All c.args.gathering.now c.loop-step.gathering xs) c.in-Some-pop.ensures.items
     c.loop-step.invariant in
-    let descent = rw c.in-Whole.is at c.in_ok-next_step.ensures in
-    room_tried K.width steps c.in-Some-pop.step c.in-Some-pop.ensures.items c.next_step.new.step c.in_ok-push-in-Whole.ensures.items descent.0.from
+    let descent = rw c.in-WholeBranch.is at c.in_ok-next_step.ensures in
+    room_tried K.width steps c.in-Some-pop.step c.in-Some-pop.ensures.items c.next_step.new.step c.in_ok-push-in-WholeBranch.ensures.items descent.0.from
     (omega (arith, descent.0.from, descent.0.step.order)) descent.0.less
     (walk_step K All c.args.gathering.now c.loop-step.gathering c.next_step.new.gathering steps c.in-Some-pop.step walk).candidates.inside
 
-pub loop-step-preserved-in_ok-push-in-Whole : goal.loop-step-preserved-in_ok-push-in-Whole
-loop-step-preserved-in_ok-push-in-Whole g c =
+pub loop-step-preserved-in_ok-push-in-WholeBranch : goal.loop-step-preserved-in_ok-push-in-WholeBranch
+loop-step-preserved-in_ok-push-in-WholeBranch g c =
     let K : Context = c.args.crosses.now in
     let All : List Set = branch K c.args.node.now.intent.now c.args.node.now.from in
     let steps : List (Step g.row.W) = c.pop.new.self.items in
     let walk = subst (λ (xs : List (Step g.row.W)). IsWalk K All c.args.gathering.now c.loop-step.gathering xs) c.in-Some-pop.ensures.items
     c.loop-step.invariant in
-    subst (λ (xs : List (Step g.row.W)). IsWalk K All c.args.gathering.now c.next_step.new.gathering xs) (sym c.in_ok-push-in-Whole.ensures.items)
+    subst (λ (xs : List (Step g.row.W)). IsWalk K All c.args.gathering.now c.next_step.new.gathering xs) (sym c.in_ok-push-in-WholeBranch.ensures.items)
     (walk_whole K All c.args.gathering.now c.loop-step.gathering c.next_step.new.gathering steps c.in-Some-pop.step walk c.next_step.new.step
-    (rw c.in-Whole.is at c.in_ok-next_step.ensures))
+    (rw c.in-WholeBranch.is at c.in_ok-next_step.ensures))
 
 pub loop-step-smaller : goal.loop-step-smaller
 loop-step-smaller g c =

@@ -6,7 +6,7 @@ abbrev pub invariant-loop-i : goal.invariant-loop-i
 invariant-loop-i g l = record {
   from_on : l.node.from ≤ l.place;
   inside : l.place ≤ l.candidates.end;
-  noted : AreWitnesses l.crosses l.node.intent.now l.scratch.noted.items;
+  noted : AreWitnesses l.crosses l.node.intent.now l.work_lists.noted.items;
   none : branch l.crosses l.node.intent.now l.place ≡ branch l.crosses l.node.intent.now l.candidates.end;
 }
 

@@ -9,7 +9,7 @@ use Rattle.lectic_concepts.proofs.WitnessLemmas.{seen_none}
 use Rattle.concept_walk.specs.Gatherings.{Fills}
 use Rattle.extent_places.specs.Few.{AreFew}
 use Rattle.extent_places.specs.Tries.{AreAttributesToTry}
-use Rattle.extent_places.specs.declared.few.SmallConcept.{SmallConcept}
+use Rattle.extent_places.specs.declared.few.FewConcept.{FewConcept}
 use Rattle.concept_walk.proofs.LineLemmas.{Fills-append}
 use Rattle.extent_places.proofs.TryLemmas.{branch-between, branch-behind}
 use Rattle.concept_walk.proofs.few_branch.+gather_few.Goals as goal
@@ -60,7 +60,7 @@ loop-i-init g t c =
     record {
       from_on = omega (arith, width, c.requires.inside);
       inside = omega (arith, width);
-      noted = seen_none K A c.take_lists-scratch.result.noted.items c.take_lists-scratch.ensures;
+      noted = seen_none K A c.take_lists-work_lists.result.noted.items c.take_lists-work_lists.ensures;
       filled = subst (Fills c.args.crosses.now c.args.gathering.now c.add.new.self)
           (sym (branch_end K A a) ∙ ap (branch K A) (sym width)) c.in_ok-add.ensures.added;
     }
@@ -88,7 +88,7 @@ loop-i-preserved-in_default-met g t c =
     let i = c.in-Some.i in
     let last = c.in-Some.ensures in
     let same : branch K A i ≡ branch K A (i + 1) =
-    subst (λ (o : Option (SmallConcept g.row.W)). MatchOption o (branch K A i ≡ branch K A (i + 1))
+    subst (λ (o : Option (FewConcept g.row.W)). MatchOption o (branch K A i ≡ branch K A (i + 1))
     (λ child. branch K A i ≡ branch K A (i + 1) ++ branch K child.intent (i + 1)))
     c.in_default-met.is c.in_ok-met.ensures.splits in
     let behind = branch-behind K c.rows-rows.result.now A c.attributes_to_try-tries.result i c.loop-i.end c.rows-rows.ensures
@@ -108,7 +108,7 @@ loop-i-preserved g t c =
     let i = c.in-Some.i in
     let last = c.in-Some.ensures in
     let splits : branch K A i ≡ branch K A (i + 1) ++ branch K D (i + 1) =
-    subst (λ (o : Option (SmallConcept g.row.W)). MatchOption o (branch K A i ≡ branch K A (i + 1))
+    subst (λ (o : Option (FewConcept g.row.W)). MatchOption o (branch K A i ≡ branch K A (i + 1))
     (λ child. branch K A i ≡ branch K A (i + 1) ++ branch K child.intent (i + 1)))
     c.in-Some-met.is c.in_ok-met.ensures.splits in
     let behind : branch K A (i + 1) ≡ branch K A c.loop-i.end =

@@ -10,7 +10,7 @@ abbrev pub invariant-loop-i : goal.invariant-loop-i
 invariant-loop-i g l = record {
   from_on : l.node.from ≤ l.end;
   inside : l.end ≤ l.crosses.width;
-  noted : AreWitnesses l.crosses l.node.intent.now l.scratch.noted.items;
+  noted : AreWitnesses l.crosses l.node.intent.now l.work_lists.noted.items;
   filled : Fills l.crosses l.fn.gathering l.gathering (branch l.crosses l.node.intent.now l.end);
 }
 

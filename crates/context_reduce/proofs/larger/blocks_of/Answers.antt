@@ -2,7 +2,7 @@ use Rattle.std.proofs.Common.{◌≡◌, ◌∙◌, ◌++◌, ◌∷◌, [], Lis
 use Rattle.std.proofs.lemmas.List.FromFn.{map-range_with_len_more}
 use Rattle.std.specs.Int.{div_ceil}
 use Rattle.fca_model.specs.Context.{Context}
-use Rattle.context_reduce.specs.Blocks.{block}
+use Rattle.context_reduce.specs.Blocks.{row_block}
 use Rattle.context_reduce.specs.Reduce.{transpose}
 use Rattle.context_reduce.proofs.BlockLemmas.{blocks_are}
 use Rattle.context_reduce.proofs.larger.blocks_of.Goals as goal
@@ -12,7 +12,7 @@ loop-k-preserved g c =
     let K : Context = c.args.rows.now in
     let k = c.loop-k.k in
     c.in_ok-push.ensures.items ∙ ap₂ (λ (Cs : List Context) (C : Context). Cs ++ C ∷ []) c.loop-k.invariant c.in_ok-columns_of.ensures
-    ∙ sym (map-range_with_len_more (λ (j : ℕ). transpose (block K j)) 0 k k (omega arith))
+    ∙ sym (map-range_with_len_more (λ (j : ℕ). transpose (row_block K j)) 0 k k (omega arith))
 
 pub returns : goal.returns
 returns g c =

@@ -35,7 +35,7 @@ returns-in_err-tables-clause-cause g c =
     let now = g.H.Shelf.tells c.load_start.new.shelf in
     let counts = g.H.Shelf.faults c.args.shelf.now in
     let between = g.H.Shelf.faults c.load_start.new.shelf in
-    let after = g.H.Shelf.faults c.load_experts.new.shelf in
+    let after = g.H.Shelf.faults c.load_expert_tables.new.shelf in
     let start = start_of c.in_ok-start.start in
     let stop = c.in_err-tables.field-0.0 in
     err-passed c.from_residual-in_err-tables.result stop
@@ -63,7 +63,7 @@ returns-clause-start g c =
     let made : List (ℕ × RowName) → ExploreStart = λ l. record {
       table = table;
       settings = record { known = S; holders = MAX_EXPERTS; expert_names = l };
-      tables = c.in_ok-tables.tables.items;
+      expert_tables = c.in_ok-tables.tables.items;
     } in
     let Read : ExploreStart → Type 0 = MayRead (explore_read c.args.file.now (option_copied c.args.known) c.args.wants_names
     c.args.files.now (g.H.Shelf.tells c.args.shelf.now)) in
@@ -86,7 +86,7 @@ pub returns-in_err-tables-clause-quiet : goal.returns-in_err-tables-clause-quiet
 returns-in_err-tables-clause-quiet g c =
     let counts = g.H.Shelf.faults c.args.shelf.now in
     let between = g.H.Shelf.faults c.load_start.new.shelf in
-    let after = g.H.Shelf.faults c.load_experts.new.shelf in
+    let after = g.H.Shelf.faults c.load_expert_tables.new.shelf in
     fault-passed c.from_residual-in_err-tables.result c.in_err-tables.field-0.0
     (SameCounts counts after) c.from_residual-in_err-tables.ensures.1
     (fault-later c.in_err-tables.field-0.0 (SameCounts between after) (SameCounts counts after)
@@ -95,7 +95,7 @@ returns-in_err-tables-clause-quiet g c =
 pub returns-clause-quiet : goal.returns-clause-quiet
 returns-clause-quiet g c =
     SameCounts-then (g.H.Shelf.faults c.args.shelf.now) (g.H.Shelf.faults c.load_start.new.shelf)
-    (g.H.Shelf.faults c.load_experts.new.shelf) c.in_ok-start.ensures.quiet c.in_ok-tables.ensures.quiet
+    (g.H.Shelf.faults c.load_expert_tables.new.shelf) c.in_ok-start.ensures.quiet c.in_ok-tables.ensures.quiet
 
 -- ---- counts of fetches
 
@@ -114,17 +114,17 @@ returns-in_err-start-clause-few g c =
 pub returns-in_err-tables-clause-few : goal.returns-in_err-tables-clause-few
 returns-in_err-tables-clause-few g c =
     let files : List Text = c.args.file.now ∷ option_to_list (option_copied c.args.known) in
-    subst (RoseAtMost (g.H.Shelf.fetches c.args.shelf.now) (g.H.Shelf.fetches c.load_experts.new.shelf))
+    subst (RoseAtMost (g.H.Shelf.fetches c.args.shelf.now) (g.H.Shelf.fetches c.load_expert_tables.new.shelf))
     (sym (length-append files c.args.files.now))
     (fetched_then (g.H.Shelf.fetches c.args.shelf.now) (g.H.Shelf.fetches c.load_start.new.shelf)
-    (g.H.Shelf.fetches c.load_experts.new.shelf) (length files) (length c.args.files.now) c.in_ok-start.ensures.few
+    (g.H.Shelf.fetches c.load_expert_tables.new.shelf) (length files) (length c.args.files.now) c.in_ok-start.ensures.few
     c.in_err-tables.ensures.few)
 
 pub returns-clause-few : goal.returns-clause-few
 returns-clause-few g c =
     let files : List Text = c.args.file.now ∷ option_to_list (option_copied c.args.known) in
-    subst (RoseAtMost (g.H.Shelf.fetches c.args.shelf.now) (g.H.Shelf.fetches c.load_experts.new.shelf))
+    subst (RoseAtMost (g.H.Shelf.fetches c.args.shelf.now) (g.H.Shelf.fetches c.load_expert_tables.new.shelf))
     (sym (length-append files c.args.files.now))
     (fetched_then (g.H.Shelf.fetches c.args.shelf.now) (g.H.Shelf.fetches c.load_start.new.shelf)
-    (g.H.Shelf.fetches c.load_experts.new.shelf) (length files) (length c.args.files.now) c.in_ok-start.ensures.few
+    (g.H.Shelf.fetches c.load_expert_tables.new.shelf) (length files) (length c.args.files.now) c.in_ok-start.ensures.few
     c.in_ok-tables.ensures.few)

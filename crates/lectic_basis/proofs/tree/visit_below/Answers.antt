@@ -41,8 +41,8 @@ loop-step-preserved-in_default-last_to_try g c =
     (subst (λ (ws : List ℕ). NoneToTry c.in-Some.step.intent ws c.in-Some.step.from c.in-Some.step.end) c.deref.ensures.value
     c.in_default-last_to_try.ensures)
 
-pub next_below-requires : goal.next_below-requires
-next_below-requires g c =
+pub try_attribute-requires : goal.try_attribute-requires
+try_attribute-requires g c =
     let K : Context = c.args.indexed.now in
     let S = c.args.known.now.members in
     let first : Step g.row.W = c.args.first in
@@ -74,7 +74,7 @@ loop-step-smaller-in_default-below g c =
     let last = subst (λ (ws : List ℕ). IsLastToTry c.in-Some.step.intent ws c.in-Some.step.from c.in-Some.step.end c.in-Some-last_to_try.i)
     c.deref.ensures.value c.in-Some-last_to_try.ensures in
     let tried = rw c.in_default-below.is at c.in_ok-below.ensures in
-    room_tried K.width c.pop.new.self.items c.in-Some.step c.in-Some.ensures.items c.next_below.new.step c.in_ok-push-2.ensures.items
+    room_tried K.width c.pop.new.self.items c.in-Some.step c.in-Some.ensures.items c.try_attribute.new.step c.in_ok-push-2.ensures.items
     tried.0.from tried.0.end last.at_least last.in_range
     (walk_step S K Wanted c.pop.new.self.items c.in-Some.step c.loop-step.found walk).inside
 
@@ -88,8 +88,8 @@ loop-step-preserved-in_default-below g c =
     let last = subst (λ (ws : List ℕ). IsLastToTry c.in-Some.step.intent ws c.in-Some.step.from c.in-Some.step.end c.in-Some-last_to_try.i)
     c.deref.ensures.value c.in-Some-last_to_try.ensures in
     let tried = rw c.in_default-below.is at c.in_ok-below.ensures in
-    subst (λ (xs : List (Step g.row.W)). IsWalk S K Wanted xs c.next_below.new.found) (sym c.in_ok-push-2.ensures.items)
-    (walk_tried S K Wanted c.pop.new.self.items c.in-Some.step c.loop-step.found walk last c.next_below.new.found c.next_below.new.step
+    subst (λ (xs : List (Step g.row.W)). IsWalk S K Wanted xs c.try_attribute.new.found) (sym c.in_ok-push-2.ensures.items)
+    (walk_tried S K Wanted c.pop.new.self.items c.in-Some.step c.loop-step.found walk last c.try_attribute.new.found c.try_attribute.new.step
     tried)
 
 pub loop-step-smaller : goal.loop-step-smaller
@@ -102,7 +102,7 @@ loop-step-smaller g c =
     let last = subst (λ (ws : List ℕ). IsLastToTry c.in-Some.step.intent ws c.in-Some.step.from c.in-Some.step.end c.in-Some-last_to_try.i)
     c.deref.ensures.value c.in-Some-last_to_try.ensures in
     let tried = rw c.in-Some-below.is at c.in_ok-below.ensures in
-    room_deeper K.width c.pop.new.self.items c.in-Some.step c.in-Some.ensures.items c.next_below.new.step c.in_ok-push-2.ensures.items
+    room_deeper K.width c.pop.new.self.items c.in-Some.step c.in-Some.ensures.items c.try_attribute.new.step c.in_ok-push-2.ensures.items
     tried.0.from tried.0.end last.at_least last.in_range
     (walk_step S K Wanted c.pop.new.self.items c.in-Some.step c.loop-step.found walk).inside c.in-Some-below.below
     c.in_ok-push-3.ensures.items tried.2
@@ -118,9 +118,9 @@ loop-step-preserved g c =
     c.deref.ensures.value c.in-Some-last_to_try.ensures in
     let tried = rw c.in-Some-below.is at c.in_ok-below.ensures in
     let one = c.in_ok-push-2.ensures.items in
-    subst (λ (xs : List (Step g.row.W)). IsWalk S K Wanted xs c.next_below.new.found)
+    subst (λ (xs : List (Step g.row.W)). IsWalk S K Wanted xs c.try_attribute.new.found)
     (sym (c.in_ok-push-3.ensures.items ∙ ap (λ (xs : List (Step g.row.W)). xs ++ c.in-Some-below.below ∷ []) one))
-    (walk_below S K Wanted c.pop.new.self.items c.in-Some.step c.loop-step.found walk last c.next_below.new.found c.next_below.new.step
+    (walk_below S K Wanted c.pop.new.self.items c.in-Some.step c.loop-step.found walk last c.try_attribute.new.found c.try_attribute.new.step
     c.in-Some-below.below tried)
 
 pub returns : goal.returns

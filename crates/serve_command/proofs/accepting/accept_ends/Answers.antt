@@ -1,5 +1,5 @@
 use Rattle.std.proofs.Common.{◌<◌, ◌∙◌, length, refl, sym, ap, subst, arith}
-use Rattle.command_io.specs.declared.stop.Stop.TheVariants.{Listener}
+use Rattle.command_io.specs.declared.stop.Stop.TheVariants.{ListenerFault}
 use Rattle.serve_command.specs.Accepted.{TookFirst, HasRoomFor}
 use Rattle.serve_command.proofs.AcceptedLemmas.{TookFirst-none, TookAndGave-both, short-some}
 use Rattle.serve_command.proofs.StepLemmas.{Rose-between}
@@ -35,5 +35,5 @@ returns-in-Err-clause-short g c =
     let took : TookFirst a b taken = subst (λ x. TookFirst a x taken) (sym c.in-Err.ensures.none) inv.0 in
     let served = TookAndGave-both a b after taken taken c.requires.room refl took
     (λ room. c.give_back.ensures.given (subst (HasRoomFor b) (sym long) room)) in
-    short-some c.args.count a after taken _ Listener served fewer
+    short-some c.args.count a after taken _ ListenerFault served fewer
     (Rose-between _ _ _ _ inv.6 c.in-Err.ensures.failed c.give_back.ensures.quiet_accept) refl

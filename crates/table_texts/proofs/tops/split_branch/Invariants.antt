@@ -8,7 +8,7 @@ abbrev pub invariant-loop-candidates : goal.invariant-loop-candidates
 invariant-loop-candidates g l = record {
   from_on : l.node.from ≤ l.candidates.end;
   candidates : AreCandidates l.crosses l.node.intent.now l.candidates;
-  noted : AreWitnesses l.crosses l.node.intent.now l.scratch.noted.items;
+  noted : AreWitnesses l.crosses l.node.intent.now l.work_lists.noted.items;
   tops : All (IsTop l.crosses) l.more.items;
   laid : branches l.crosses l.more.items ≡ branches l.crosses l.fn.more.items ++ branch l.crosses l.node.intent.now l.candidates.end;
 }

@@ -1,6 +1,6 @@
 use Rattle.command_io.specs.Readings.{SameCounts}
 use Rattle.command_io.proofs.QuietLemmas.{unless_fault, fault-passed}
-use Rattle.explore_command.proofs.start.load_expert.Goals as goal
+use Rattle.explore_command.proofs.start.load_expert_table.Goals as goal
 
 pub returns-in_err-expert_table-clause-quiet : goal.returns-in_err-expert_table-clause-quiet
 returns-in_err-expert_table-clause-quiet g c =

@@ -12,7 +12,7 @@ use Rattle.command_io.proofs.FetchLemmas.{fetched_none, fetched_one, fetched_wit
 use Rattle.command_io.proofs.QuietLemmas.{unless_fault, fault-later, fault-passed, SameCounts-then}
 use Rattle.explore_command.specs.Starts.{experts_read, IsExpertsStop}
 use Rattle.explore_command.proofs.StartLemmas.{ReadsOn, ReadsOn-next, ReadsOn-all, refused-file, experts-stop, memory-experts}
-use Rattle.explore_command.proofs.start.load_experts.Goals as goal
+use Rattle.explore_command.proofs.start.load_expert_tables.Goals as goal
 
 pub returns-in_err-expert_table-clause-refused : goal.returns-in_err-expert_table-clause-refused
 returns-in_err-expert_table-clause-refused g c =
@@ -35,7 +35,7 @@ returns-in_err-expert_table-clause-cause g c =
     let table = c.args.table.now in
     let tells = g.H.Shelf.tells c.args.shelf.now in
     let counts = g.H.Shelf.faults c.args.shelf.now in
-    let after = g.H.Shelf.faults c.load_expert.new.shelf in
+    let after = g.H.Shelf.faults c.load_expert_table.new.shelf in
     err-passed c.from_residual.result stop (IsExpertsStop table 0 c.args.files.now tells (Rises counts after)) c.from_residual.ensures.1
     (experts-stop table c.args.files.now c.loop-place.place c.index-files-place.result tells (g.H.Shelf.tells c.loop-place.shelf) counts
     (g.H.Shelf.faults c.loop-place.shelf) after
@@ -62,9 +62,9 @@ loop-place-preserved g c =
       (λ other. c.in_ok-expert_table.ensures.kept other ∙ inv.3 other),
       (λ other. (let before = inv.4 other in let now = c.in_ok-expert_table.ensures.only_rise other in omega arith)),
       (λ other. c.in_ok-expert_table.ensures.quiet other ∙ inv.5 other),
-      fetched_then (g.H.Shelf.fetches c.args.shelf.now) (g.H.Shelf.fetches c.loop-place.shelf) (g.H.Shelf.fetches c.load_expert.new.shelf)
+      fetched_then (g.H.Shelf.fetches c.args.shelf.now) (g.H.Shelf.fetches c.loop-place.shelf) (g.H.Shelf.fetches c.load_expert_table.new.shelf)
           c.loop-place.place 1 inv.6
-          (fetched_one (g.H.Shelf.fetches c.loop-place.shelf) (g.H.Shelf.fetches c.load_expert.new.shelf) c.in_ok-expert_table.ensures.counted),
+          (fetched_one (g.H.Shelf.fetches c.loop-place.shelf) (g.H.Shelf.fetches c.load_expert_table.new.shelf) c.in_ok-expert_table.ensures.counted),
     )
 
 pub returns-clause-tables : goal.returns-clause-tables
@@ -79,7 +79,7 @@ returns-in_err-push-clause-cause g c =
     let memory : IfErr left (λ (s : Stop). s ≡ Memory) = search rules in
     let table = c.args.table.now in
     let tells = g.H.Shelf.tells c.args.shelf.now in
-    let rises = Rises (g.H.Shelf.faults c.args.shelf.now) (g.H.Shelf.faults c.load_expert.new.shelf) in
+    let rises = Rises (g.H.Shelf.faults c.args.shelf.now) (g.H.Shelf.faults c.load_expert_table.new.shelf) in
     IfErr-weaker left (λ (s : Stop). s ≡ Memory) (IsExpertsStop table 0 c.args.files.now tells rises)
     (λ s e. memory-experts table 0 c.args.files.now tells rises s e) memory
 
@@ -87,7 +87,7 @@ pub returns-in_err-expert_table-clause-quiet : goal.returns-in_err-expert_table-
 returns-in_err-expert_table-clause-quiet g c =
     let counts = g.H.Shelf.faults c.args.shelf.now in
     let between = g.H.Shelf.faults c.loop-place.shelf in
-    let after = g.H.Shelf.faults c.load_expert.new.shelf in
+    let after = g.H.Shelf.faults c.load_expert_table.new.shelf in
     fault-passed c.from_residual.result c.in_err-expert_table.field-0.0 (SameCounts counts after) c.from_residual.ensures.1
     (fault-later c.in_err-expert_table.field-0.0 (SameCounts between after) (SameCounts counts after)
     (SameCounts-then counts between after c.loop-place.invariant.5) c.in_err-expert_table.ensures.quiet)
@@ -95,7 +95,7 @@ returns-in_err-expert_table-clause-quiet g c =
 pub returns-in_err-push-clause-quiet : goal.returns-in_err-push-clause-quiet
 returns-in_err-push-clause-quiet g c =
     let counts = g.H.Shelf.faults c.args.shelf.now in
-    let after = g.H.Shelf.faults c.load_expert.new.shelf in
+    let after = g.H.Shelf.faults c.load_expert_table.new.shelf in
     unless_fault c.from_residual-in_err-push.result (SameCounts counts after)
     (SameCounts-then counts (g.H.Shelf.faults c.loop-place.shelf) after c.loop-place.invariant.5 c.in_ok-expert_table.ensures.quiet)
 
@@ -104,20 +104,20 @@ returns-in_err-push-clause-quiet g c =
 pub returns-in_err-expert_table-clause-few : goal.returns-in_err-expert_table-clause-few
 returns-in_err-expert_table-clause-few g c =
     let inside : c.loop-place.place < length c.args.files.now = omega arith in
-    fetched_within (g.H.Shelf.fetches c.args.shelf.now) (g.H.Shelf.fetches c.load_expert.new.shelf) (c.loop-place.place + 1)
+    fetched_within (g.H.Shelf.fetches c.args.shelf.now) (g.H.Shelf.fetches c.load_expert_table.new.shelf) (c.loop-place.place + 1)
     (length c.args.files.now) (omega arith)
-    (fetched_then (g.H.Shelf.fetches c.args.shelf.now) (g.H.Shelf.fetches c.loop-place.shelf) (g.H.Shelf.fetches c.load_expert.new.shelf)
+    (fetched_then (g.H.Shelf.fetches c.args.shelf.now) (g.H.Shelf.fetches c.loop-place.shelf) (g.H.Shelf.fetches c.load_expert_table.new.shelf)
     c.loop-place.place 1 c.loop-place.invariant.6
-    (fetched_one (g.H.Shelf.fetches c.loop-place.shelf) (g.H.Shelf.fetches c.load_expert.new.shelf) c.in_err-expert_table.ensures.counted))
+    (fetched_one (g.H.Shelf.fetches c.loop-place.shelf) (g.H.Shelf.fetches c.load_expert_table.new.shelf) c.in_err-expert_table.ensures.counted))
 
 pub returns-in_err-push-clause-few : goal.returns-in_err-push-clause-few
 returns-in_err-push-clause-few g c =
     let inside : c.loop-place.place < length c.args.files.now = omega arith in
-    fetched_within (g.H.Shelf.fetches c.args.shelf.now) (g.H.Shelf.fetches c.load_expert.new.shelf) (c.loop-place.place + 1)
+    fetched_within (g.H.Shelf.fetches c.args.shelf.now) (g.H.Shelf.fetches c.load_expert_table.new.shelf) (c.loop-place.place + 1)
     (length c.args.files.now) (omega arith)
-    (fetched_then (g.H.Shelf.fetches c.args.shelf.now) (g.H.Shelf.fetches c.loop-place.shelf) (g.H.Shelf.fetches c.load_expert.new.shelf)
+    (fetched_then (g.H.Shelf.fetches c.args.shelf.now) (g.H.Shelf.fetches c.loop-place.shelf) (g.H.Shelf.fetches c.load_expert_table.new.shelf)
     c.loop-place.place 1 c.loop-place.invariant.6
-    (fetched_one (g.H.Shelf.fetches c.loop-place.shelf) (g.H.Shelf.fetches c.load_expert.new.shelf) c.in_ok-expert_table.ensures.counted))
+    (fetched_one (g.H.Shelf.fetches c.loop-place.shelf) (g.H.Shelf.fetches c.load_expert_table.new.shelf) c.in_ok-expert_table.ensures.counted))
 
 pub returns-clause-few : goal.returns-clause-few
 returns-clause-few g c =

@@ -3,7 +3,7 @@ use Rattle.extent_blocks.specs.Blocks.{IsExtent}
 use Rattle.lectic_basis.specs.Steps.{IsFurther}
 use Rattle.lectic_basis.specs.declared.tree.Step.{Step}
 use Rattle.lectic_basis.proofs.StepLemmas.{tried_told}
-use Rattle.lectic_basis.proofs.tree.next_below.Goals as goal
+use Rattle.lectic_basis.proofs.tree.try_attribute.Goals as goal
 
 pub returns-in-Some : goal.returns-in-Some
 returns-in-Some g c =
@@ -12,9 +12,9 @@ returns-in-Some g c =
       intent = old.intent;
       from = old.from;
       end = c.args.i;
-      lists = c.child_at.new.lists;
+      lists = c.visit_child_at.new.lists;
     } in
-    let further : IsFurther c.args.indexed.now c.args.i c.child_at.new.found old new =
+    let further : IsFurther c.args.indexed.now c.args.i c.visit_child_at.new.found old new =
     record {
       intent = refl;
       from = refl;

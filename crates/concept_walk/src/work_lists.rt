@@ -53,9 +53,9 @@ impl<const W: usize> WorkListPool<W> {
 pub(crate) fn take_lists(alloc: Global, spare: &mut Vec<WorkLists>) -> WorkLists
     ensures { result.noted.items ≡ [] }
 {
-    if let Some(mut scratch) = spare.pop() {
-        scratch.noted.clear();
-        return scratch;
+    if let Some(mut work_lists) = spare.pop() {
+        work_lists.noted.clear();
+        return work_lists;
     }
     WorkLists::new(alloc)
 }

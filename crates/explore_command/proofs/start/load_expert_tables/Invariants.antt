@@ -5,7 +5,7 @@ use Rattle.std.specs.Prelude.{All, vec_len}
 use Rattle.fca_model.specs.Tables.{Text}
 use Rattle.fca_io.specs.Faults.{RoseAtMost}
 use Rattle.explore_command.proofs.StartLemmas.{ReadsOn}
-use Rattle.explore_command.proofs.start.load_experts.Given as goal
+use Rattle.explore_command.proofs.start.load_expert_tables.Given as goal
 
 abbrev pub invariant-loop-place : goal.invariant-loop-place
 invariant-loop-place g l =

@@ -1,7 +1,7 @@
 use Rattle.std.proofs.Common.{◌∙◌, ◌*◌, ◌-◌, List, take, drop, length, ap}
 use Rattle.std.proofs.lemmas.List.{take_min, take_rest}
 use Rattle.fca_model.specs.Sets.{Set}
-use Rattle.context_reduce.proofs.larger.block.Goals as goal
+use Rattle.context_reduce.proofs.larger.row_block.Goals as goal
 
 pub returns-clause-rows : goal.returns-clause-rows
 returns-clause-rows g c =

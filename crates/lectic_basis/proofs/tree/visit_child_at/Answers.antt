@@ -5,7 +5,7 @@ use Rattle.lectic_basis.specs.Watches.{IsBounded}
 use Rattle.lectic_basis.proofs.ForcedLemmas.{bounded_more, forced_more}
 use Rattle.lectic_basis.proofs.WalkLemmas.{below_can_close, below_none, below_visit, below_told, below_up, told_forced, told_extent}
 use Rattle.lectic_basis.proofs.WalkLemmas.{below_extent, below_wide}
-use Rattle.lectic_basis.proofs.tree.child_at.Goals as goal
+use Rattle.lectic_basis.proofs.tree.visit_child_at.Goals as goal
 
 pub close-requires : goal.close-requires
 close-requires g c = (
