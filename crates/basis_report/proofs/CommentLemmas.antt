@@ -17,7 +17,8 @@ use Rattle.expert_wire.specs.Patterns.{is_name}
 use Rattle.expert_wire.proofs.ReadLemmas.{pattern_no_break}
 use Rattle.expert_wire.proofs.SkipLemmas.{Skips, Skips-nil, Skips-append, Skips-comment, no_break-append, no_break-decimal, no_break-name}
 use Rattle.expert_wire.proofs.SkipLemmas.{no_break-rule}
-use Rattle.expert_scripts.specs.Transcripts.{AreNames, SettingsCanBeWritten}
+use Rattle.text_pieces.specs.Lists.{EachName}
+use Rattle.expert_scripts.specs.Transcripts.{SettingsCanBeWritten}
 use Rattle.oracle_expert.specs.Oracles.{Conflicts}
 use Rattle.report_texts.specs.Reports.{count_line}
 use Rattle.basis_report.specs.Comments.{comment_line, comments, are_lines, AreComments}
@@ -34,7 +35,7 @@ Skips-comments (words ∷ lines) h =
     Skips-append (comment_line words) (comments lines) (Skips-comment words (not-true (list_any is_line_break words) parts.0))
     (Skips-comments lines parts.1)
 
-pub spelled-comments : (t : NamedContext) (settings : Settings) (H : List SetEntry) (lines : List Text) → AreNames t.attributes
+pub spelled-comments : (t : NamedContext) (settings : Settings) (H : List SetEntry) (lines : List Text) → EachName t.attributes
     → SettingsCanBeWritten t.context.width settings → EachNamed H
     → IsLegal (opening t.context t.objects settings) H → are_lines lines ≡ true
     → Spells t settings H (explore_text t settings H ++ comments lines)

@@ -14,7 +14,7 @@ use Rattle.expert_scripts.specs.Transcripts.{transcript}
 use Rattle.report_texts.specs.Reports.{count_line}
 use Rattle.std.specs.List.{flat_map, enumerate_from}
 use Rattle.basis_report.specs.Explorations.{recorded_section, accepted_section, open_section, basis_section, sections, state_of_history}
-use Rattle.basis_report.specs.Explorations.{explore_text, transcript_of, lists_of, basis_of}
+use Rattle.basis_report.specs.Explorations.{explore_text, transcript_of, sections_before_basis, basis_section_of}
 
 pub sections-known : (attributes : List Text) (H : List SetEntry) (s : State) (S : List Rule) → s.settings.known ≡ S
     → sections attributes H s
@@ -89,7 +89,7 @@ explore_text-parts t settings H T eT G eG S eS J eJ J' eJ' A eA Q eQ A' eA' Q' e
 
 -- ---- the text by its pieces
 
-pub explore_text-pieces : (h : ExploreModel) → transcript_of h ++ (lists_of h ++ basis_of h)
+pub explore_text-pieces : (h : ExploreModel) → transcript_of h ++ (sections_before_basis h ++ basis_section_of h)
     ≡ explore_text h.opening.table h.opening.settings h.journal
 explore_text-pieces h =
     let t = h.opening.table in
@@ -98,8 +98,8 @@ explore_text-pieces h =
     let recorded = recorded_section H in
     let accepted = accepted_section t.attributes (length s.known) (state_of h).accepted in
     let open_ = open_section t.attributes (open_of h) in
-    let apart : lists_of h ++ basis_of h ≡ recorded ++ (accepted ++ (open_ ++ basis_of h)) =
-    append_assoc recorded (accepted ++ open_) (basis_of h) ∙ ap (λ z. recorded ++ z) (append_assoc accepted open_ (basis_of h)) in
+    let apart : sections_before_basis h ++ basis_section_of h ≡ recorded ++ (accepted ++ (open_ ++ basis_section_of h)) =
+    append_assoc recorded (accepted ++ open_) (basis_section_of h) ∙ ap (λ z. recorded ++ z) (append_assoc accepted open_ (basis_section_of h)) in
     ap (λ z. transcript_of h ++ z) apart
     ∙ explore_text-parts t s H t refl s refl s.known refl H refl H refl (state_of h).accepted refl (open_of h) refl
     (state_of h).accepted refl (open_of h) refl
@@ -113,11 +113,11 @@ three_parts d0 d1 d2 d3 a b c e0 e1 e2 e3 =
     let all : d3 ≡ (([] ++ a) ++ b) ++ c = e3 ∙ ap (λ z. z ++ c) (e2 ∙ ap (λ z. z ++ b) (e1 ∙ ap (λ z. z ++ a) e0)) in
     all ∙ append_assoc a b c
 
-pub lists_of-parts : (h : ExploreModel) (T : NamedContext) → T ≡ h.opening.table → (J : List SetEntry) → J ≡ h.journal → (S : List Rule)
+pub sections_before_basis-parts : (h : ExploreModel) (T : NamedContext) → T ≡ h.opening.table → (J : List SetEntry) → J ≡ h.journal → (S : List Rule)
     → S ≡ h.opening.settings.known
     → (A : List Rule) → A ≡ (state_of h).accepted → (Q : List Rule) → Q ≡ open_of h
-    → recorded_section J ++ (accepted_section T.attributes (length S) A ++ open_section T.attributes Q) ≡ lists_of h
-lists_of-parts h T eT J eJ S eS A eA Q eQ =
+    → recorded_section J ++ (accepted_section T.attributes (length S) A ++ open_section T.attributes Q) ≡ sections_before_basis h
+sections_before_basis-parts h T eT J eJ S eS A eA Q eQ =
     let t = h.opening.table in
     let k = length h.opening.settings.known in
     ap (λ x. lists x (length S) J A Q) eT ∙ ap (λ x. lists t (length S) x A Q) eJ

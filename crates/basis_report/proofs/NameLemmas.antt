@@ -8,7 +8,7 @@ use Rattle.std.proofs.lemmas.Option.{slice_get_within, get_or_from_slice_get}
 use Rattle.fca_model.specs.Names.{IsName}
 use Rattle.fca_model.specs.Tables.{Text}
 use Rattle.expert_wire.specs.Patterns.{is_name}
-use Rattle.expert_scripts.specs.Transcripts.{AreNames}
+use Rattle.text_pieces.specs.Lists.{EachName}
 
 -- one more name is valid
 pub name_more : (names : List Text) (i : ℕ) (name : Text) → Some name ≡ slice_get names i → IsName name
@@ -22,10 +22,10 @@ name_more names i name named h before =
 
 -- if those after this one are valid, so are all from this one on
 pub names_more : (names : List Text) (i : ℕ) (name : Text) → Some name ≡ slice_get names i → IsName name
-    → (AreNames (drop i names) → AreNames names) → AreNames (drop (i + 1) names) → AreNames names
+    → (EachName (drop i names) → EachName names) → EachName (drop (i + 1) names) → EachName names
 names_more names i name named h before later =
     let here : IsName (get_or names i []) = subst IsName (sym (get_or_from_slice_get names i name [] (sym named))) h in
-    before (subst AreNames (sym (drop_more names i [] (slice_get_within names i name (sym named)))) (here, later))
+    before (subst EachName (sym (drop_more names i [] (slice_get_within names i name (sym named)))) (here, later))
 
-pub names_past : (names : List Text) (i : ℕ) → length names ≤ i → (AreNames (drop i names) → AreNames names) → AreNames names
-names_past names i h before = before (subst AreNames (sym (drop_of_length-le names h)) tt)
+pub names_past : (names : List Text) (i : ℕ) → length names ≤ i → (EachName (drop i names) → EachName names) → EachName names
+names_past names i h before = before (subst EachName (sym (drop_of_length-le names h)) tt)

@@ -17,7 +17,7 @@ use Rattle.fca_model.specs.Implications.{Rule, rule, premises}
 use Rattle.fca_model.specs.Pseudo.{basis_known}
 use Rattle.fca_model.specs.Questions.{has_premise, open_questions}
 use Rattle.fca_model.specs.Exploration.{State, Settings, SetEntry, IsLegal, opening, open_in, state_after, events_of}
-use Rattle.fca_model.specs.Invariant.{IsAccepted, distinct_premises, rows_respect}
+use Rattle.fca_model.specs.Invariant.{IsAccepted, have_distinct_premises, rows_respect}
 use Rattle.fca_model.proofs.ListLemmas.{list_all-mono, and_true, and_assoc, or_not}
 use Rattle.fca_model.proofs.SetLemmas.{lectic_equal, same-true, same_refl}
 use Rattle.fca_model.proofs.DoneLemmas.{accepted_sorted, accepted_length}
@@ -158,11 +158,11 @@ still_new i Es (j ∷ J) new apart news =
     other_way : (A B : Set) → same A B ≡ false → same B A ≡ false
     other_way A B d = false_from_ne_true (same B A) (λ t. false≢true (sym d ∙ subst (λ X. same X B ≡ true) (same-true B A t) (same_refl B)))
 
-members-with_all : (p : Rule → Bool) (Es : List (Set × Set)) (J : List Rule) → distinct_premises J ≡ true → are_new Es J ≡ true
+members-with_all : (p : Rule → Bool) (Es : List (Set × Set)) (J : List Rule) → have_distinct_premises J ≡ true → are_new Es J ≡ true
     → list_all p (map ruled (with_all Es J)) ≡ (list_all p (map ruled Es) && list_all p J)
 members-with_all p Es [] d news = sym (and_true (list_all p (map ruled Es)))
 members-with_all p Es (i ∷ J) d news =
-    let ds = and_parts (not (has_premise J i.premise)) (distinct_premises J) d in
+    let ds = and_parts (not (has_premise J i.premise)) (have_distinct_premises J) d in
     let ns = and_parts (not (has_key i.premise Es)) (are_new Es J) news in
     let new = not-true (has_key i.premise Es) ns.0 in
     members-with_all p (insert_entry lectic_cmp Es i.premise i.conclusion) J ds.1

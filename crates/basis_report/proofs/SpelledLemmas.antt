@@ -19,7 +19,8 @@ use Rattle.expert_wire.proofs.ReadLemmas.{pattern_no_break}
 use Rattle.expert_wire.proofs.SkipLemmas.{Skips, Skips-nil, Skips-append, Skips-comment, Skips-flat_map, no_break-append}
 use Rattle.expert_wire.proofs.SkipLemmas.{no_break-decimal, no_break-name, no_break-arrow, no_break-full, no_break-rule}
 use Rattle.expert_scripts.specs.Scripts.{EachEventCanBeWritten, HasRowName, script_form}
-use Rattle.expert_scripts.specs.Transcripts.{AreNames, SettingsCanBeWritten, transcript}
+use Rattle.text_pieces.specs.Lists.{EachName}
+use Rattle.expert_scripts.specs.Transcripts.{SettingsCanBeWritten, transcript}
 use Rattle.expert_scripts.proofs.TranscriptLemmas.{are_names, script_form-transcript}
 use Rattle.report_texts.specs.Reports.{count_line, implication_line, implication_lines}
 use Rattle.basis_report.specs.Explorations.{records_row, recorded_line, recorded_section, accepted_section, open_section, in_lectic_order}
@@ -115,7 +116,7 @@ each_said n (entry ∷ H) experts widths named =
 -- ---- the whole
 
 -- skipped lines may follow the text
-pub spelled-more : (t : NamedContext) (settings : Settings) (H : List SetEntry) (more : Text) → AreNames t.attributes
+pub spelled-more : (t : NamedContext) (settings : Settings) (H : List SetEntry) (more : Text) → EachName t.attributes
     → SettingsCanBeWritten t.context.width settings → EachNamed H
     → IsLegal (opening t.context t.objects settings) H → Skips more → Spells t settings H (explore_text t settings H ++ more)
 unfolding explore_text
@@ -133,7 +134,7 @@ spelled-more t settings H more names can named legal skips =
       settings = ap (λ r. (content_or_plain r).settings) said;
     }
 
-pub spelled-explore_text : (t : NamedContext) (settings : Settings) (H : List SetEntry) → AreNames t.attributes
+pub spelled-explore_text : (t : NamedContext) (settings : Settings) (H : List SetEntry) → EachName t.attributes
     → SettingsCanBeWritten t.context.width settings → EachNamed H
     → IsLegal (opening t.context t.objects settings) H → Spells t settings H (explore_text t settings H)
 spelled-explore_text t settings H names can named legal =

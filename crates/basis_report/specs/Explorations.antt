@@ -94,15 +94,15 @@ abbrev pub transcript_of : ExploreModel → Text
 transcript_of h = transcript h.opening.table.attributes h.opening.settings h.journal
 
 -- the sections between the transcript and the basis
-abbrev pub lists_of : ExploreModel → Text
-lists_of h =
+abbrev pub sections_before_basis : ExploreModel → Text
+sections_before_basis h =
     recorded_section h.journal
     ++ (accepted_section h.opening.table.attributes (length h.opening.settings.known) (state_of h).accepted
     ++ open_section h.opening.table.attributes (open_of h))
 
 -- the section of the basis
-abbrev pub basis_of : ExploreModel → Text
-basis_of h = basis_section h.opening.table.attributes (state_of h).accepted (open_of h)
+abbrev pub basis_section_of : ExploreModel → Text
+basis_section_of h = basis_section h.opening.table.attributes (state_of h).accepted (open_of h)
 
 -- ---- the history that a text spells
 

@@ -5,7 +5,8 @@ ghost use Rattle.std.specs.List.{list_all};
 ghost use Rattle.fca_model.specs.Tables.{Text, NamedContext};
 ghost use Rattle.fca_model.specs.Exploration.{Settings, SetEntry, IsLegal, opening, open_in};
 ghost use Rattle.expert_wire.specs.Patterns.{is_name};
-ghost use Rattle.expert_scripts.specs.Transcripts.{AreNames, SettingsCanBeWritten};
+ghost use Rattle.text_pieces.specs.Lists.{EachName};
+ghost use Rattle.expert_scripts.specs.Transcripts.{SettingsCanBeWritten};
 ghost use Rattle.fca_model.specs.Pseudo.{basis, basis_known};
 ghost use Rattle.fca_model.specs.Invariant.{rows_respect};
 ghost use Rattle.fca_model.specs.Sets.{Set};
@@ -21,22 +22,22 @@ ghost use Rattle.basis_report.specs.Explorations.{basis_section, text_before_bas
 
 /// The text of an exploration spells its settings and its history.
 pub fn exploration_reads_back()
-    ensures { (t : NamedContext) (settings : Settings) (H : List SetEntry) → AreNames t.attributes
+    ensures { (t : NamedContext) (settings : Settings) (H : List SetEntry) → EachName t.attributes
         → SettingsCanBeWritten t.context.width settings → EachNamed H
         → IsLegal (opening t.context t.objects settings) H → Spells t settings H (explore_text t settings H) }
 {}
 
 /// The text of an exploration spells the same if lines that begin with `#` follow, as those of conflicts and of sessions do.
 pub fn comments_change_nothing()
-    ensures any { (t : NamedContext) (settings : Settings) (H : List SetEntry) (lines : List Text) → AreNames t.attributes
+    ensures any { (t : NamedContext) (settings : Settings) (H : List SetEntry) (lines : List Text) → EachName t.attributes
         → SettingsCanBeWritten t.context.width settings → EachNamed H
         → IsLegal (opening t.context t.objects settings) H → are_lines lines ≡ true → SpellsBefore t settings H lines }
     ensures conflicts { (t : NamedContext) (settings : Settings) (H : List SetEntry) (rules : List Rule)
-        (oracles : List (NamedContext × Conflicts)) → AreNames t.attributes → SettingsCanBeWritten t.context.width settings → EachNamed H
+        (oracles : List (NamedContext × Conflicts)) → EachName t.attributes → SettingsCanBeWritten t.context.width settings → EachNamed H
         → IsLegal (opening t.context t.objects settings) H
         → list_all (λ o. list_all is_name o.0.objects) oracles ≡ true
         → Spells t settings H (explore_text t settings H ++ conflicts_text t.attributes rules oracles) }
-    ensures sessions { (t : NamedContext) (settings : Settings) (H : List SetEntry) (endings : List Text) → AreNames t.attributes
+    ensures sessions { (t : NamedContext) (settings : Settings) (H : List SetEntry) (endings : List Text) → EachName t.attributes
         → SettingsCanBeWritten t.context.width settings → EachNamed H
         → IsLegal (opening t.context t.objects settings) H → are_lines endings ≡ true
         → Spells t settings H (explore_text t settings H ++ sessions_text endings) }

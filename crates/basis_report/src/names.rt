@@ -4,7 +4,7 @@ ghost use Rattle.std.specs.Prelude.{◌≡◌, true};
 ghost use Rattle.std.specs.List.{list_all};
 ghost use Rattle.expert_wire.specs.Patterns.{is_name};
 ghost use Rattle.expert_scripts.specs.Scripts.{HasRowName};
-ghost use Rattle.expert_scripts.specs.Transcripts.{AreNames};
+ghost use Rattle.text_pieces.specs.Lists.{EachName};
 ghost use Rattle.basis_report.specs.Explorations.{EachNamed};
 
 use context_table::Table;
@@ -13,7 +13,7 @@ use oracle_expert::Oracle;
 
 /// Looks at the names of the attributes.
 pub(crate) fn look_at_attributes(table: &Table)
-    ensures { AreNames table.now.attributes }
+    ensures { EachName table.now.attributes }
 {
     for attribute in 0..table.rows().width() {
         let _name = table.attribute_name(attribute).bytes();

@@ -5,7 +5,7 @@ ghost use Rattle.std.specs.List.{flat_map};
 ghost use Rattle.fca_model.specs.Tables.{Text};
 ghost use Rattle.expert_scripts.specs.Transcripts.{SettingsCanBeWritten};
 ghost use Rattle.basis_report.specs.Comments.{are_lines};
-ghost use Rattle.basis_report.specs.Explorations.{SpellsBefore, explore_text, transcript_of, lists_of, basis_of};
+ghost use Rattle.basis_report.specs.Explorations.{SpellsBefore, explore_text, transcript_of, sections_before_basis, basis_section_of};
 
 use crate::explorations::{write_accepted, write_basis, write_open, write_recorded};
 use crate::names::{look_at_attributes, look_at_rows};
@@ -53,7 +53,7 @@ fn make_pieces<R: Threads>(
             *front = transcript_piece(*alloc, explore);
         },
         &mut ||
-            ensures { IfOk behind.exit.now (λ p. (p.0.items ≡ lists_of explore.entry.now) × (p.1.items ≡ basis_of explore.entry.now)) }
+            ensures { IfOk behind.exit.now (λ p. (p.0.items ≡ sections_before_basis explore.entry.now) × (p.1.items ≡ basis_section_of explore.entry.now)) }
         {
             *behind = lists_and_basis(rt, alloc, explore);
         },
@@ -69,19 +69,19 @@ fn lists_and_basis<R: Threads>(
     alloc: &Global,
     explore: &Explore,
 ) -> Result<(Vec<u8>, Vec<u8>), Memory>
-    ensures { IfOk result (λ p. (p.0.items ≡ lists_of explore.now) × (p.1.items ≡ basis_of explore.now)) }
+    ensures { IfOk result (λ p. (p.0.items ≡ sections_before_basis explore.now) × (p.1.items ≡ basis_section_of explore.now)) }
 {
     let (mut first, mut second) = (Err(Memory), Err(Memory));
     let (lists, basis) = (&mut first, &mut second);
     join_mut(
         rt,
         &mut ||
-            ensures { IfOk lists.exit.now (λ v. v.items ≡ lists_of explore.entry.now) }
+            ensures { IfOk lists.exit.now (λ v. v.items ≡ sections_before_basis explore.entry.now) }
         {
             *lists = lists_piece(*alloc, explore);
         },
         &mut ||
-            ensures { IfOk basis.exit.now (λ v. v.items ≡ basis_of explore.entry.now) }
+            ensures { IfOk basis.exit.now (λ v. v.items ≡ basis_section_of explore.entry.now) }
         {
             *basis = basis_piece(*alloc, explore);
         },
@@ -103,7 +103,7 @@ fn transcript_piece(alloc: Global, explore: &Explore) -> Result<Vec<u8>, Memory>
 
 /// The piece of the recorded rows, the accepted implications and the open questions.
 fn lists_piece(alloc: Global, explore: &Explore) -> Result<Vec<u8>, Memory>
-    ensures { IfOk result (λ v. v.items ≡ lists_of explore.now) }
+    ensures { IfOk result (λ v. v.items ≡ sections_before_basis explore.now) }
 {
     let table = explore.table();
     let mut draft = Draft::new(alloc);
@@ -115,7 +115,7 @@ fn lists_piece(alloc: Global, explore: &Explore) -> Result<Vec<u8>, Memory>
 
 /// The piece of the basis.
 fn basis_piece(alloc: Global, explore: &Explore) -> Result<Vec<u8>, Memory>
-    ensures { IfOk result (λ v. v.items ≡ basis_of explore.now) }
+    ensures { IfOk result (λ v. v.items ≡ basis_section_of explore.now) }
 {
     let mut draft = Draft::new(alloc);
     write_basis(

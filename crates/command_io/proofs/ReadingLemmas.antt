@@ -4,7 +4,7 @@ use Rattle.fca_model.specs.Tables.{NamedContext}
 use Rattle.context_table.specs.Table.{untitled_context}
 use Rattle.command_io.specs.Readings.{Reading, then, MayRead, MayRefuse, IfRead}
 use Rattle.command_io.specs.Readings.Reading.{Untold, Missing, Refused, Read}
-use Rattle.command_io.specs.Narrow.{untitled_reading}
+use Rattle.command_io.specs.Untitled.{untitled_reading}
 
 pub refused_then : {X Y : Type 0} (r : Reading X) (next : X → Reading Y) → MayRefuse r → MayRefuse (then r next)
 refused_then Untold next may = tt

@@ -2,7 +2,7 @@ pub mod Causes
 pub mod ErrLines
 pub mod Readings
 pub mod Forms
-pub mod Narrow
+pub mod Untitled
 pub mod Known
 pub mod Endings
 pub mod Texts

@@ -7,7 +7,7 @@ ghost use Rattle.cxt_format.specs.Form.{cxt_form};
 ghost use Rattle.csv_context.specs.Form.{csv_form};
 ghost use Rattle.command_io.specs.Readings.{formed, MayRead, MayRefuse, SameCounts};
 ghost use Rattle.command_io.specs.Forms.{is_csv, table_formed, table_read};
-ghost use Rattle.command_io.specs.Narrow.{untitled_reading};
+ghost use Rattle.command_io.specs.Untitled.{untitled_reading};
 ghost use Rattle.command_io.specs.Causes.{UnlessReadFault, IsFormStop, IsFileStop};
 ghost use Rattle.command_io.specs.Endings.{IsRefusal};
 

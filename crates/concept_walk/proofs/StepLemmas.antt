@@ -8,7 +8,7 @@ use Rattle.fca_model.specs.Context.{Context}
 use Rattle.lectic_concepts.specs.Branches.{branch}
 use Rattle.concept_walk.specs.Gatherings.{Fills}
 use Rattle.concept_walk.specs.Steps.{IsStep, BeginsAt, IsFurther, AreLeft, HasDescended, steps_left}
-use Rattle.fca_model.specs.Room.{steps_bound}
+use Rattle.fca_model.specs.StepBounds.{steps_bound}
 use Rattle.fca_model.proofs.RoomLemmas.{room_less, room_below}
 use Rattle.concept_walk.specs.declared.gathering.Gathering.{Gathering}
 use Rattle.concept_walk.specs.declared.steps.Step.{Step}

@@ -4,7 +4,7 @@ use Rattle.std.specs.List.{sum_by}
 use Rattle.fca_model.specs.Sets.{Set}
 use Rattle.fca_model.specs.Context.{Context, extent, is_closed}
 use Rattle.lectic_concepts.specs.Branches.{branch, AreWitnesses}
-use Rattle.fca_model.specs.Room.{steps_bound}
+use Rattle.fca_model.specs.StepBounds.{steps_bound}
 use Rattle.concept_walk.specs.Nodes.{AreCandidates}
 use Rattle.concept_walk.specs.Gatherings.{Fills}
 use Rattle.concept_walk.specs.declared.node.Candidates.{Candidates}

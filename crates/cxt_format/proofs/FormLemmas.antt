@@ -6,17 +6,17 @@ use Rattle.std.specs.Option.{unwrap_or}
 use Rattle.std.specs.Str.Pattern.{FindsCharPrefix}
 use Rattle.std.specs.List.{list_any}
 use Rattle.fca_model.specs.Tables.{Text}
-use Rattle.text_pieces.specs.Left.{Left}
+use Rattle.text_pieces.specs.RemainingLines.{RemainingLines}
 use Rattle.text_pieces.specs.Lines.{Line}
-use Rattle.cxt_format.specs.Words.{name_form, new_name, attribute_form}
+use Rattle.cxt_format.specs.LineForms.{name_form, new_name, attribute_form}
 use Rattle.text_pieces.specs.Telling.{then}
 use Rattle.cxt_format.specs.Form.{Parsed, Parses, more, next, next_of, without_bom}
 use Rattle.cxt_format.specs.declared.CxtFault.{CxtFault}
 use Rattle.cxt_format.specs.declared.CxtFault.TheVariants as fault
 use lib.Utf8.{encode}
 
-module _ {X : Type 0} (parse : List X → Left → Parsed X) (xs : List X) (n i : ℕ) (left : Left) where
-  pub more-Ok : (x : X) (rest : Left) → i < n → parse xs left ≡ Ok (x, rest)
+module _ {X : Type 0} (parse : List X → RemainingLines → Parsed X) (xs : List X) (n i : ℕ) (left : RemainingLines) where
+  pub more-Ok : (x : X) (rest : RemainingLines) → i < n → parse xs left ≡ Ok (x, rest)
       → more parse xs (n - i) left ≡ more parse (xs ++ x ∷ []) (n - (i + 1)) rest
   more-Ok x rest below is =
       let one : n - i ≡ suc (n - (i + 1)) = omega arith in
@@ -28,12 +28,12 @@ module _ {X : Type 0} (parse : List X → Left → Parsed X) (xs : List X) (n i 
       rw (one, is) refl
 
 -- what is made of a name that was parsed: a fault if it stands among those seen
-abbrev pub looked_up : List Text → ℕ → Text × Left → Parsed Text
+abbrev pub looked_up : List Text → ℕ → Text × RemainingLines → Parsed Text
 looked_up seen k p = cond (list_any (bytes_eq p.0) seen) (Err (fault.DuplicateAttribute k)) (Ok p)
 
-attribute-then : (seen : List Text) (k : ℕ) (rest : Left) (told : Result Text CxtFault)
-    → then {Y = Text × Left} (new_name seen k told) (λ x. Ok (x, rest)) ≡ then {X = Text × Left}
-    (then {Y = Text × Left} told (λ x. Ok (x, rest))) (looked_up seen k)
+attribute-then : (seen : List Text) (k : ℕ) (rest : RemainingLines) (told : Result Text CxtFault)
+    → then {Y = Text × RemainingLines} (new_name seen k told) (λ x. Ok (x, rest)) ≡ then {X = Text × RemainingLines}
+    (then {Y = Text × RemainingLines} told (λ x. Ok (x, rest))) (looked_up seen k)
 attribute-then seen k rest (Err e) = refl
 attribute-then seen k rest (Ok name) = elim (cases_Bool (list_any (bytes_eq name) seen)) [
   | inl is ↦ rw is refl
@@ -46,7 +46,7 @@ attribute-next_of seen k [] = refl
 attribute-next_of seen k (line ∷ lines) = attribute-then seen k (record { number = k + 1; lines = lines }) (name_form k line)
 
 -- the name of an attribute is a name, which is then looked up among those before
-pub next-attribute_form : (seen : List Text) (left : Left)
+pub next-attribute_form : (seen : List Text) (left : RemainingLines)
     → next (attribute_form seen) left ≡ then (next name_form left) (looked_up seen left.number)
 next-attribute_form seen left = attribute-next_of seen left.number left.lines
 
@@ -74,7 +74,7 @@ without_bom-stripped text (Some x) h =
     rw marked refl
 
 -- a fault that is passed on as it is
-pub Parses-passed : {X Y : Type 0} (view : X → Y) (told : Result X CxtFault) (form : Parsed Y) (left : Left) (e : CxtFault)
+pub Parses-passed : {X Y : Type 0} (view : X → Y) (told : Result X CxtFault) (form : Parsed Y) (left : RemainingLines) (e : CxtFault)
     → IsErr told × IsErrAnd told (λ passed. passed ≡ e) → (e ≡ fault.Memory) ⊎ (form ≡ Err e) → Parses view told form left
 Parses-passed view (Ok x) form left e passed why = cc passed.0
 Parses-passed view (Err f) form left e passed why = rw passed.1 why

@@ -14,9 +14,9 @@ use Rattle.fca_model.specs.Sets.{Set}
 use Rattle.fca_model.specs.Tables.{Text, NamedContext}
 use Rattle.fca_model.specs.declared.TheConstants.{MAX_ATTRIBUTES, MAX_OBJECTS}
 use Rattle.context_table.specs.Table.{IsTable, repeat_from}
-use Rattle.text_pieces.specs.Left.{Left, after_blanks_of}
+use Rattle.text_pieces.specs.RemainingLines.{RemainingLines, after_blanks_of}
 use Rattle.text_pieces.specs.Lines.{Line, lines}
-use Rattle.cxt_format.specs.Words.{title_form, row_in_marks}
+use Rattle.cxt_format.specs.LineForms.{title_form, row_in_marks}
 use Rattle.cxt_format.specs.Form.{Parsed, objects_form, attributes_form, rows_form, head_form, body_form, table_form, end_form, without_bom}
 use Rattle.cxt_format.specs.Form.{cxt_form}
 use Rattle.text_pieces.specs.Marks.{marks_of}
@@ -75,7 +75,7 @@ rows-back width seen ((mark ∷ row) ∷ rows) k wide =
     (left.0, rw (is_blank_line-marks_of mark row, read) (left.1 ∙ rw (append_assoc seen ((mark ∷ row) ∷ []) rows) refl))
 
 -- no line is read for a row with no place
-no-rows-back : (seen rows : List Set) (left : Left) → EachWide zero rows → rows_form zero seen (length rows) left ≡ Ok (seen ++ rows, left)
+no-rows-back : (seen rows : List Set) (left : RemainingLines) → EachWide zero rows → rows_form zero seen (length rows) left ≡ Ok (seen ++ rows, left)
 no-rows-back seen [] left wide = rw (append-nil seen) refl
 no-rows-back seen ([] ∷ rows) left wide = no-rows-back (seen ++ [] ∷ []) rows left wide.1 ∙ rw (append_assoc seen ([] ∷ []) rows) refl
 no-rows-back seen ((mark ∷ row) ∷ rows) left wide = cc wide.0
@@ -88,7 +88,7 @@ no-rows-end ((mark ∷ row) ∷ rows) k wide = cc wide.0
 
 -- the rows, and the end of the file
 rows-and-end : (width : ℕ) (rows : List Set) (k : ℕ) → EachWide width rows
-    → (left : Left) × (rows_form width [] (length rows) (record { number = k; lines = map marks_of rows }) ≡ Ok (rows, left))
+    → (left : RemainingLines) × (rows_form width [] (length rows) (record { number = k; lines = map marks_of rows }) ≡ Ok (rows, left))
     × (end_form left ≡ Ok tt)
 rows-and-end zero rows k wide =
     let done = no-rows-end rows k wide in (

@@ -12,7 +12,7 @@ use Rattle.text_pieces.specs.Lines.{Line}
 use Rattle.text_pieces.specs.Marks.{is_cross, is_mark, marks_of}
 use Rattle.text_pieces.proofs.MarkLemmas.{marks_of-marks, set_of_marks-marks_of, length-marks_of}
 use Rattle.text_pieces.proofs.NumeralLemmas.{numeral-decimal, trim-decimal}
-use Rattle.cxt_format.specs.Words.{count_form, row_in_marks, row_form}
+use Rattle.cxt_format.specs.LineForms.{count_form, row_in_marks, row_form}
 
 pub count_form-decimal : (most k n : ℕ) → n ≤ most → n < 2 ^ 64 → count_form most k (decimal n) ≡ Ok n
 count_form-decimal most k n within small =

@@ -1,6 +1,6 @@
-pub mod Words
+pub mod LineForms
 pub mod Form
-pub mod Narrow
+pub mod Untitled
 pub mod Written
 pub mod Faults
 pub mod Cells

@@ -1,7 +1,7 @@
 //! The readers of single lines.
 
 ghost use Rattle.std.specs.Prelude.{◌≡◌, ◌≤◌, ◌*◌};
-ghost use Rattle.cxt_format.specs.Words as form;
+ghost use Rattle.cxt_format.specs.LineForms as form;
 ghost use Rattle.text_pieces.specs.Telling.{Tells};
 
 use crate::CxtFault;

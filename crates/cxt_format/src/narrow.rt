@@ -6,7 +6,7 @@ ghost use Rattle.context_table.specs.Narrow.{context_in};
 ghost use Rattle.cxt_format.specs.Form as form;
 ghost use Rattle.text_pieces.specs.Telling.{Tells};
 ghost use Rattle.cxt_format.specs.Form.{Parses};
-ghost use Rattle.cxt_format.specs.Narrow.{untitled_form};
+ghost use Rattle.cxt_format.specs.Untitled.{untitled_form};
 
 use crate::CxtFault;
 use crate::read::{

@@ -3,7 +3,7 @@
 ghost use Rattle.std.specs.Prelude.{◌≡◌, ◌<◌, ◌≤◌, ◌-◌, ◌*◌, ◌^◌, [], IfOk, false, length, vec_len, bytes_eq};
 ghost use Rattle.std.specs.List.{list_any};
 ghost use Rattle.text_pieces.specs.Lines.{lines};
-ghost use Rattle.cxt_format.specs.Words as word;
+ghost use Rattle.cxt_format.specs.LineForms as word;
 ghost use Rattle.cxt_format.specs.Form as form;
 ghost use Rattle.text_pieces.specs.Telling.{Tells};
 ghost use Rattle.cxt_format.specs.Form.{Parses};

@@ -44,41 +44,42 @@ use Rattle.expert_scripts.specs.Scripts.{events_of_lines, with_holders, with_hol
 use Rattle.expert_scripts.specs.Scripts.{setting_of_words, setting_of, script_content, settings_then_events, content_of_lines}
 use Rattle.expert_scripts.specs.Scripts.{second_heading, script_form}
 use Rattle.expert_scripts.specs.Transcripts.{event_text, entries_text, is_plain, known_line, name_line, names_text, settings_text}
-use Rattle.expert_scripts.specs.Transcripts.{opening_text, transcript, second_of, AreNames, AreExpertNames, SettingsCanBeWritten}
+use Rattle.text_pieces.specs.Lists.{EachName}
+use Rattle.expert_scripts.specs.Transcripts.{opening_text, transcript, second_of, AreExpertNames, SettingsCanBeWritten}
 use Rattle.expert_scripts.proofs.StageLemmas.{setting_taken, setting_none}
 use Rattle.expert_scripts.proofs.NamedLemmas.{AreBelow, below-more, unnamed, insert-last, below-push, names_text-listed}
 use Rattle.expert_scripts.proofs.EventLemmas.{expert_numeral, utf8_verb, utf8_space, event_of-event_text}
 
 -- ---- names
 
-pub are_names : (names : List Text) → AreNames names → list_all is_name names ≡ true
+pub are_names : (names : List Text) → EachName names → list_all is_name names ≡ true
 are_names [] h = refl
 are_names (name ∷ names) h = and_from (is_name name) (list_all is_name names) (ap is_none h.0.faultless) (are_names names h.1)
 
-utf8_continued : (names : List Text) → AreNames names → IsUtf8 (comma_tail names)
+utf8_continued : (names : List Text) → EachName names → IsUtf8 (comma_tail names)
 utf8_continued [] h = utf8_words [] refl
 utf8_continued (name ∷ names) h =
     IsUtf8-append (codes ", ") (name ++ comma_tail names) (utf8_words (codes ", ") refl)
     (IsUtf8-append name (comma_tail names) h.0.utf8 (utf8_continued names h.1))
 
-utf8_braced : (names : List Text) → AreNames names → IsUtf8 (names_in_braces names)
+utf8_braced : (names : List Text) → EachName names → IsUtf8 (names_in_braces names)
 utf8_braced [] h = utf8_words (codes "{}") refl
 utf8_braced (name ∷ names) h =
     IsUtf8-append (codes "{") ((name ++ comma_tail names) ++ codes "}") (utf8_words (codes "{") refl)
     (IsUtf8-append (name ++ comma_tail names) (codes "}") (IsUtf8-append name (comma_tail names) h.0.utf8 (utf8_continued names h.1))
     (utf8_words (codes "}") refl))
 
-AreNames-names_of : (attributes : List Text) (A : Set) → AreNames attributes → AreNames (names_of attributes A)
-AreNames-names_of [] A h = tt
-AreNames-names_of (name ∷ names) [] h = tt
-AreNames-names_of (name ∷ names) (true ∷ A) h = (h.0, AreNames-names_of names A h.1)
-AreNames-names_of (name ∷ names) (false ∷ A) h = AreNames-names_of names A h.1
+EachName-names_of : (attributes : List Text) (A : Set) → EachName attributes → EachName (names_of attributes A)
+EachName-names_of [] A h = tt
+EachName-names_of (name ∷ names) [] h = tt
+EachName-names_of (name ∷ names) (true ∷ A) h = (h.0, EachName-names_of names A h.1)
+EachName-names_of (name ∷ names) (false ∷ A) h = EachName-names_of names A h.1
 
-utf8_full : (attributes : List Text) (i : Rule) → AreNames attributes → IsUtf8 (full_text attributes i)
+utf8_full : (attributes : List Text) (i : Rule) → EachName attributes → IsUtf8 (full_text attributes i)
 utf8_full attributes i h =
-    let premise = utf8_braced (names_of attributes i.premise) (AreNames-names_of attributes i.premise h) in
+    let premise = utf8_braced (names_of attributes i.premise) (EachName-names_of attributes i.premise h) in
     let gained = utf8_braced (names_of attributes (minus i.conclusion i.premise))
-    (AreNames-names_of attributes (minus i.conclusion i.premise) h) in
+    (EachName-names_of attributes (minus i.conclusion i.premise) h) in
     let arrow = IsUtf8-append (braces_text attributes i.premise)
     (codes " -> " ++ braces_text attributes (minus i.conclusion i.premise)) premise
     (IsUtf8-append (codes " -> ") (braces_text attributes (minus i.conclusion i.premise)) (utf8_words (codes " -> ") refl) gained) in
@@ -140,7 +141,7 @@ settled_holders n k t second h rest e none =
     ∙ ap Some (holders_written k t h e none))
 
 settings_known : (n : ℕ) (attributes : List Text) (J : List Rule) (k : ℕ) (t : PartialSettings) (second : ℕ) (rest : Text)
-    → AreNames attributes → HaveWidth n J
+    → EachName attributes → HaveWidth n J
     → (m : ℕ) × (settings_then_events n t second (numbered_lines k (lines (flat_map (known_line attributes) J ++ rest)))
     ≡ settings_then_events n (record t { known = t.known ++ J }) second (numbered_lines m (lines rest)))
 settings_known n attributes [] k t second rest names wide =
@@ -321,7 +322,7 @@ first_version n attributes H tail names said skips =
     regroup : (a b c : Text) → ((a ++ line_end) ++ b) ++ c ≡ a ++ (10 ∷ (b ++ c))
     regroup a b c = simp append_assoc
 
-second_version : (n : ℕ) (attributes : List Text) (s : Settings) (H : List SetEntry) (tail : Text) → AreNames attributes
+second_version : (n : ℕ) (attributes : List Text) (s : Settings) (H : List SetEntry) (tail : Text) → EachName attributes
     → SettingsCanBeWritten n s → EachEventCanBeWritten n H → Skips tail
     → script_form ((((second_heading ++ line_end) ++ settings_text attributes s) ++ entries_text attributes H) ++ tail) n ≡ read_back s H
     (Some 1)
@@ -350,7 +351,7 @@ second_version n attributes s H tail names can said skips =
     regroup : (a b c d e f : Text) → (((a ++ line_end) ++ (b ++ (c ++ d))) ++ e) ++ f ≡ a ++ (10 ∷ (b ++ (c ++ (d ++ (e ++ f)))))
     regroup a b c d e f = simp append_assoc
 
-pub script_form-transcript : (n : ℕ) (attributes : List Text) (s : Settings) (H : List SetEntry) (tail : Text) → AreNames attributes
+pub script_form-transcript : (n : ℕ) (attributes : List Text) (s : Settings) (H : List SetEntry) (tail : Text) → EachName attributes
     → SettingsCanBeWritten n s → EachEventCanBeWritten n H → Skips tail
     → script_form (transcript attributes s H ++ tail) n ≡ Ok (record { settings = s; events = events_of H; second = second_of s })
 script_form-transcript n attributes s H tail names can said skips =

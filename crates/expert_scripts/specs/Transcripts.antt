@@ -84,11 +84,6 @@ second_of s = cond (is_plain s) None (Some 1)
 
 -- ---- what can be written
 
--- each of the texts is a name
-abbrev pub AreNames : List Text → Type 0
-AreNames [] = ⊤
-AreNames (x ∷ xs) = IsName x × AreNames xs
-
 -- valid names of experts, in ascending order of their numbers, which are above e
 abbrev pub AreExpertNames : ℕ → List (ℕ × RowName) → Type 0
 AreExpertNames e [] = ⊤

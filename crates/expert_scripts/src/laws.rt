@@ -7,7 +7,8 @@ ghost use Rattle.fca_model.specs.Tables.{Text};
 ghost use Rattle.expert_wire.specs.Texts.{full_text};
 ghost use Rattle.expert_scripts.specs.Known.{known_rule};
 ghost use Rattle.expert_scripts.specs.Scripts.{EventCanBeWritten, EachEventCanBeWritten, event_of, script_form};
-ghost use Rattle.expert_scripts.specs.Transcripts.{AreNames, SettingsCanBeWritten, event_text, second_of, transcript};
+ghost use Rattle.text_pieces.specs.Lists.{EachName};
+ghost use Rattle.expert_scripts.specs.Transcripts.{SettingsCanBeWritten, event_text, second_of, transcript};
 
 /// The line of an implication is read back as this implication.
 pub fn full_text_reads_back()
@@ -22,7 +23,7 @@ pub fn event_reads_back()
 
 /// A transcript is read back as its settings and its events.
 pub fn transcript_reads_back()
-    ensures { (n : ℕ) (attributes : List Text) (settings : Settings) (H : List SetEntry) → AreNames attributes
+    ensures { (n : ℕ) (attributes : List Text) (settings : Settings) (H : List SetEntry) → EachName attributes
         → SettingsCanBeWritten n settings → EachEventCanBeWritten n H
         → script_form (transcript attributes settings H) n
         ≡ Ok (record { settings = settings; events = events_of H; second = second_of settings }) }

@@ -26,7 +26,7 @@ use Rattle.expert_sessions.specs.declared.ended.Ended.TheVariants.{Quit, EndOfIn
 use Rattle.expert_sessions.specs.Lines.{Asks, Says, BeginsWithEvent, Exchange, IsExchange, IsQuit, IsNotQuit, lines_of, answers_text}
 use Rattle.expert_sessions.specs.Lines.{entries_of, said_line, before_last}
 use Rattle.expert_sessions.specs.Talks.{GoesOn, HasQuit, LacksLastAnswer}
-use Rattle.expert_sessions.specs.Moves.{DuplexState, Moves, IsQuiet, DeskCount, Enters}
+use Rattle.expert_sessions.specs.Moves.{DuplexState, Moves, IsQuiet, DeskProgress, Enters}
 use Rattle.expert_sessions.specs.Courses.{said_of, SendsText, ReadsOn, HasFeedAt, LacksLine, Serves, HaltsAt, Halts, Goes, Closes}
 use Rattle.expert_sessions.specs.Courses.{HasServed}
 use Rattle.expert_sessions.proofs.MoveLemmas.{Moves-trans, Moves-equal, IsQuiet-trans, Enters-nil, Enters-trans, Enters-equal}
@@ -38,7 +38,7 @@ use Rattle.expert_sessions.proofs.LineLemmas.{before_last-snoc, before_last-All,
 -- ---- one line
 
 -- what a turn is answered, what it enters, and that it is taken
-module _ (e : ℕ) (form : Result Request RequestFault) (event : SetEvent) (c d : DeskCount) (asks : Asks e form event)
+module _ (e : ℕ) (form : Result Request RequestFault) (event : SetEvent) (c d : DeskProgress) (asks : Asks e form event)
     (left : d.left ≡ one_less c.left) where
   pub turn-answered : (turn : Result SetReply TurnFault)
       → IfOk turn (λ reply. d.entries ≡ c.entries ++ record { event = event; reply = reply } ∷ []) → OnErr turn (d.entries ≡ c.entries)
@@ -62,7 +62,7 @@ module _ (e : ℕ) (form : Result Request RequestFault) (event : SetEvent) (c d 
   turn-answered (Err NoTurn) entered same spent = tt
 
 -- no turn is left for what was asked
-pub turn-refused : (e : ℕ) (form : Result Request RequestFault) (event : SetEvent) (c d : DeskCount) → Asks e form event
+pub turn-refused : (e : ℕ) (form : Result Request RequestFault) (event : SetEvent) (c d : DeskProgress) → Asks e form event
     → d.left ≡ one_less c.left → (turn : Result SetReply TurnFault)
     → OnErr turn (d.entries ≡ c.entries) → (IsErrOf turn NoTurn → c.left ≡ Some 0) × (c.left ≡ Some 0 → IsErrOf turn NoTurn)
     → IfErr (said_of turn) (λ ended. (ended ≡ Spent) × (d.left ≡ Some 0) × Enters c d [] 0 × (asked : SetEvent) × Asks e form asked)
@@ -73,7 +73,7 @@ turn-refused e form event c d asks left (Err NoTurn) same spent =
     (refl, none.0, record { added = same ∙ sym (append-nil c.entries); turns = none.1 }, event, asks)
 
 -- no whole line was read
-pub unread : (t : NamedContext) (e : ℕ) (a b : DuplexState) (c : DeskCount) (ahead ahead' : Text) (ended : Ended) → ReadsOn a b ahead ahead'
+pub unread : (t : NamedContext) (e : ℕ) (a b : DuplexState) (c : DeskProgress) (ahead ahead' : Text) (ended : Ended) → ReadsOn a b ahead ahead'
     → LacksLine a b ahead' ended → Halts t e a b c c ahead ended
 unread t e a b c ahead ahead' ended r h = record {
   more = [];
@@ -112,7 +112,7 @@ begins-event n e text at event feed few asks = record {
 }
 
 -- the line was read, and no turn was left for it
-pub unturned : (t : NamedContext) (e : ℕ) (a b : DuplexState) (c d : DeskCount) (ahead ahead' : Text) (at : ℕ) (ended : Ended)
+pub unturned : (t : NamedContext) (e : ℕ) (a b : DuplexState) (c d : DeskProgress) (ahead ahead' : Text) (at : ℕ) (ended : Ended)
     (event : SetEvent)
     → ReadsOn a b ahead ahead' → b.read_faults ≡ a.read_faults
     → HasFeedAt ahead' at → at ≤ LINE_BYTES → Asks e (request_form (take at ahead') t.context.width) event → ended ≡ Spent
@@ -142,7 +142,7 @@ one_turn : (turns : ℕ) → turns ≡ turns + 0
 one_turn turns = omega arith
 
 -- the line was read, and answered; then what was read is the line, and what stands ahead now
-module _ (t : NamedContext) (e : ℕ) (a b b' : DuplexState) (c d : DeskCount) (ahead ahead' ahead'' : Text) (at : ℕ) (said : Said)
+module _ (t : NamedContext) (e : ℕ) (a b b' : DuplexState) (c d : DeskProgress) (ahead ahead' ahead'' : Text) (at : ℕ) (said : Said)
     (made : List SetEntry) (turns : ℕ)
     (r : ReadsOn a b ahead ahead') (still : b.read_faults ≡ a.read_faults) (feed : HasFeedAt ahead' at) (few : at ≤ LINE_BYTES)
     (answered : Says e (request_form (take at ahead') t.context.width) said made turns)
@@ -212,7 +212,7 @@ module _ (t : NamedContext) (e : ℕ) (a b b' : DuplexState) (c d : DeskCount) (
 
 -- ---- all lines
 
-pub greeted : (t : NamedContext) (e : ℕ) (a b : DuplexState) (c : DeskCount) (result : Result (Unit {0}) Put)
+pub greeted : (t : NamedContext) (e : ℕ) (a b : DuplexState) (c : DeskProgress) (result : Result (Unit {0}) Put)
     → SendsText a b (greeting t e) result
     → is_err result ≡ false → Goes t e a b c c [] 0
 greeted t e a b c result w ok = record {
@@ -227,7 +227,7 @@ greeted t e a b c result w ok = record {
   read = refl;
 }
 
-pub ungreeted : (t : NamedContext) (e lines : ℕ) (a b : DuplexState) (c : DeskCount) (result : Result (Unit {0}) Put)
+pub ungreeted : (t : NamedContext) (e lines : ℕ) (a b : DuplexState) (c : DeskProgress) (result : Result (Unit {0}) Put)
     → SendsText a b (greeting t e) result → is_err result ≡ true
     → HasServed t e lines a b c c WriteFault
 ungreeted t e lines a b c result w failed = record {
@@ -249,7 +249,7 @@ ungreeted t e lines a b c result w failed = record {
   closes = (write_rose result w failed, tt, w.read_faults);
 }
 
-pub one_more_line : (t : NamedContext) (e : ℕ) (a b b' : DuplexState) (c d d' : DeskCount) (ahead ahead' : Text) (k : ℕ)
+pub one_more_line : (t : NamedContext) (e : ℕ) (a b b' : DuplexState) (c d d' : DeskProgress) (ahead ahead' : Text) (k : ℕ)
     → Goes t e a b c d ahead k
     → Serves t e b b' d d' ahead ahead'
     → Goes t e a b' c d' ahead' (k + 1)
@@ -282,7 +282,7 @@ one_more_line t e a b b' c d d' ahead ahead' k x y =
           ∙ sym (append_assoc (lines_of x.served) (y.exchange.line ++ line_end) ahead') ∙ ap (λ z. z ++ ahead') lines;
     }
 
-pub limited : (t : NamedContext) (e lines : ℕ) (a b : DuplexState) (c d : DeskCount) (ahead : Text) → Goes t e a b c d ahead lines
+pub limited : (t : NamedContext) (e lines : ℕ) (a b : DuplexState) (c d : DeskProgress) (ahead : Text) → Goes t e a b c d ahead lines
     → HasServed t e lines a b c d Limit
 limited t e lines a b c d ahead x = record {
   taken = x.taken;
@@ -313,7 +313,7 @@ record Last (t : NamedContext) (e lines : ℕ) (xs more : List Exchange) (sent :
   split : sent ≡ (greeting t e ++ answers_text t.attributes xs) ++ part
 
 -- at most one line more was served
-more-few : (n e : ℕ) (a b : DuplexState) (d : DeskCount) (ended : Ended) (more : List Exchange) (rest unsent : Text)
+more-few : (n e : ℕ) (a b : DuplexState) (d : DeskProgress) (ended : Ended) (more : List Exchange) (rest unsent : Text)
     → HaltsAt n e a b d ended more rest unsent → (more ≡ []) ⊎ ((x : Exchange) × (more ≡ x ∷ []))
 more-few n e a b d Quit more rest unsent h = inr (h.0, h.1)
 more-few n e a b d WriteFault more rest unsent h = inr (h.0, h.1)
@@ -363,7 +363,7 @@ lacks_last t e xs x (y ∷ ys) sent part split all =
     let front : before_last (y ∷ ys) ≡ xs = ap before_last split ∙ before_last-snoc xs x in
     (part, all ∙ ap (λ z. (greeting t e ++ answers_text t.attributes z) ++ part) (sym front))
 
-closing : (t : NamedContext) (e lines : ℕ) (a b b' : DuplexState) (d : DeskCount) (xs more : List Exchange) (rest sent unsent : Text)
+closing : (t : NamedContext) (e lines : ℕ) (a b b' : DuplexState) (d : DeskProgress) (xs more : List Exchange) (rest sent unsent : Text)
     → Last t e lines xs more sent → IsQuiet a b
     → (ended : Ended) → HaltsAt t.context.width e b b' d ended more rest unsent
     → Closes t e lines a b' d ended (xs ++ more) rest sent unsent
@@ -392,7 +392,7 @@ closing t e lines a b b' d xs more rest sent unsent l quiet Limit h = absurd h
 closing t e lines a b b' d xs more rest sent unsent l quiet Memory h = absurd h
 
 -- all that can be sent was sent, where no write failed
-whole_or_failed : (n e : ℕ) (a b b' : DuplexState) (d : DeskCount) (ended : Ended) (more : List Exchange) (rest unsent : Text)
+whole_or_failed : (n e : ℕ) (a b b' : DuplexState) (d : DeskProgress) (ended : Ended) (more : List Exchange) (rest unsent : Text)
     → a.write_faults ≤ b.write_faults
     → HaltsAt n e b b' d ended more rest unsent
     → (unsent ≡ []) ⊎ Rose a.write_faults b'.write_faults
@@ -405,7 +405,7 @@ whole_or_failed n e a b b' d Spent more rest unsent w h = inl h.1
 whole_or_failed n e a b b' d Limit more rest unsent w h = absurd h
 whole_or_failed n e a b b' d Memory more rest unsent w h = absurd h
 
-pub halted : (t : NamedContext) (e lines : ℕ) (a b b' : DuplexState) (c d d' : DeskCount) (ahead : Text) (k : ℕ) (ended : Ended)
+pub halted : (t : NamedContext) (e lines : ℕ) (a b b' : DuplexState) (c d d' : DeskProgress) (ahead : Text) (k : ℕ) (ended : Ended)
     → Goes t e a b c d ahead k → k < lines → Halts t e b b' d d' ahead ended
     → HasServed t e lines a b' c d' ended
 halted t e lines a b b' c d d' ahead k ended x below y =

@@ -9,7 +9,7 @@ use Rattle.fca_io.specs.Faults.{Rose, one_more}
 use Rattle.fca_model.specs.Tables.{Text}
 use Rattle.fca_model.specs.Exploration.{SetEntry}
 use Rattle.expert_gate.specs.Desks.{one_less}
-use Rattle.expert_sessions.specs.Moves.{DuplexState, Moves, IsQuiet, DeskCount, Enters, TakesTurns, TakesTurnsAtMost}
+use Rattle.expert_sessions.specs.Moves.{DuplexState, Moves, IsQuiet, DeskProgress, Enters, TakesTurns, TakesTurnsAtMost}
 use Rattle.expert_sessions.specs.Courses.{ReadsOn}
 
 pub Moves-nil : (a : DuplexState) → Moves a a [] []
@@ -82,14 +82,14 @@ leave-few (Some n) y z k p e =
     let bound = p.2 in
     (p.0 - 1, e ∙ ap one_less p.1, omega arith)
 
-pub Enters-nil : (c : DeskCount) → Enters c c [] 0
+pub Enters-nil : (c : DeskProgress) → Enters c c [] 0
 Enters-nil c = record { added = sym (append-nil c.entries); turns = TakesTurns-nil c.left }
 
-pub Enters-trans : {c d f : DeskCount} {m m' : List SetEntry} {k l : ℕ} → Enters c d m k → Enters d f m' l → Enters c f (m ++ m') (k + l)
+pub Enters-trans : {c d f : DeskProgress} {m m' : List SetEntry} {k l : ℕ} → Enters c d m k → Enters d f m' l → Enters c f (m ++ m') (k + l)
 Enters-trans {c} {d} {f} {m} {m'} {k} {l} x y = record {
   added = y.added ∙ ap (λ z. z ++ m') x.added ∙ append_assoc c.entries m m';
   turns = TakesTurns-trans k l c.left d.left f.left x.turns y.turns;
 }
 
-pub Enters-equal : {c d : DeskCount} {m m' : List SetEntry} {k l : ℕ} → m ≡ m' → k ≡ l → Enters c d m k → Enters c d m' l
+pub Enters-equal : {c d : DeskProgress} {m m' : List SetEntry} {k l : ℕ} → m ≡ m' → k ≡ l → Enters c d m k → Enters c d m' l
 Enters-equal {c} {d} {m} {m'} {k} {l} e h x = subst (Enters c d m') h (subst (λ z. Enters c d z k) e x)

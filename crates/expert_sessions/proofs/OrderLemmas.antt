@@ -7,7 +7,7 @@ use Rattle.fca_io.specs.declared.outside.Put.{Put}
 use Rattle.fca_model.specs.Tables.{Text, NamedContext}
 use Rattle.expert_wire.specs.Greetings.{greeting}
 use Rattle.expert_sessions.specs.Lines.{HasNoFeed, lines_of, answers_text}
-use Rattle.expert_sessions.specs.Moves.{DeskCount}
+use Rattle.expert_sessions.specs.Moves.{DeskProgress}
 use Rattle.expert_sessions.specs.Courses.{SendsText, ReadsOn, Goes}
 use Rattle.expert_sessions.specs.Order.{OneRead, end_state, ReadsNothing, ReadsOnce, AreReadings, ReadsOnlyWhere, AwaitsLine, ReadsForLine}
 use Rattle.expert_sessions.specs.Order.{IsAnswered, ReadsInTurn}
@@ -101,7 +101,7 @@ module _ {E : Type 0} (left held : E → Option Text) (reads : E → Option ℕ)
   greeted-first t e a b text result w same = written (IsAnswered left held reads read_faults write_faults t e a) a b text result w same
 
   -- behind lines that were answered, the end was read for one line
-  pub line-in_turn : (t : NamedContext) (e : ℕ) (first a b : E) (c d : DeskCount) (ahead : Text) (k : ℕ)
+  pub line-in_turn : (t : NamedContext) (e : ℕ) (first a b : E) (c d : DeskProgress) (ahead : Text) (k : ℕ)
       → ReadsInTurn left held reads read_faults write_faults t e first a
       → Goes t e (end_state left held reads read_faults write_faults first)
       (end_state left held reads read_faults write_faults a) c d ahead k

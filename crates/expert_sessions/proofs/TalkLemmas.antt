@@ -9,13 +9,13 @@ use Rattle.expert_sessions.specs.declared.ended.Ended.{Ended}
 use Rattle.expert_sessions.specs.declared.ended.Ended.TheVariants.{Quit, EndOfInput, ReadFault, WriteFault, LongLine, Limit, Spent, Memory}
 use Rattle.expert_sessions.specs.Lines.{Exchange, entries_of, turns_of}
 use Rattle.expert_sessions.specs.Talks.{Stops, EndsTalk, AndLeaves, Makes, Talk, HasTalked}
-use Rattle.expert_sessions.specs.Moves.{DuplexState, DeskCount, Enters, TakesTurns, TakesTurnsAtMost}
+use Rattle.expert_sessions.specs.Moves.{DuplexState, DeskProgress, Enters, TakesTurns, TakesTurnsAtMost}
 use Rattle.expert_sessions.specs.Courses.{Closes, HasServed}
 use Rattle.expert_sessions.proofs.MoveLemmas.{Moves-nil, IsQuiet-nil, Enters-nil, TakesTurns-few, Enters-trans, Enters-equal}
 use Rattle.expert_sessions.proofs.LineLemmas.{turns_of-few}
 
 -- there was no room for a line
-pub refused : (t : NamedContext) (e lines : ℕ) (a : DuplexState) (c : DeskCount) → HasTalked t e lines a a c c Memory
+pub refused : (t : NamedContext) (e lines : ℕ) (a : DuplexState) (c : DeskProgress) → HasTalked t e lines a a c c Memory
 refused t e lines a c = record {
   taken = [];
   made = [];
@@ -34,7 +34,7 @@ refused t e lines a c = record {
 }
 
 -- no turn was left for a line
-pub spent_early : (t : NamedContext) (e lines : ℕ) (a b : DuplexState) (c d : DeskCount) (ended : Ended) → HasServed t e lines a b c d ended
+pub spent_early : (t : NamedContext) (e lines : ℕ) (a b : DuplexState) (c d : DeskProgress) (ended : Ended) → HasServed t e lines a b c d ended
     → ended ≡ Spent → HasTalked t e lines a b c d Spent
 spent_early t e lines a b c d ended y is = let x : HasServed t e lines a b c d Spent = subst (λ z. HasServed t e lines a b c d z) is y in
     record {
@@ -52,7 +52,7 @@ spent_early t e lines a b c d ended y is = let x : HasServed t e lines a b c d S
     }
 
 -- a line takes one turn at most
-pub served-few : {t : NamedContext} {e lines : ℕ} {a b : DuplexState} {c d : DeskCount} {ended : Ended} (k : ℕ) → lines ≤ k
+pub served-few : {t : NamedContext} {e lines : ℕ} {a b : DuplexState} {c d : DeskProgress} {ended : Ended} (k : ℕ) → lines ≤ k
     → HasServed t e lines a b c d ended → TakesTurnsAtMost k c.left d.left
 served-few {t} {e} {lines} {a} {b} {c} {d} k h x =
     let each = turns_of-few t.context.width e x.course.served x.course.each in
@@ -60,7 +60,7 @@ served-few {t} {e} {lines} {a} {b} {c} {d} k h x =
     TakesTurns-few (turns_of x.course.served) k c.left d.left x.enters.turns (omega arith)
 
 -- the reason lies not in the desk
-stops : (t : NamedContext) (e lines : ℕ) (a b : DuplexState) (d : DeskCount) (ended : Ended) (served : List Exchange) (rest sent unsent : Text)
+stops : (t : NamedContext) (e lines : ℕ) (a b : DuplexState) (d : DeskProgress) (ended : Ended) (served : List Exchange) (rest sent unsent : Text)
     → ended ≢ Spent
     → Closes t e lines a b d ended served rest sent unsent → Stops t e lines a b ended served rest sent unsent
 stops t e lines a b d Quit served rest sent unsent n h = h
@@ -73,7 +73,7 @@ stops t e lines a b d Spent served rest sent unsent n h = absurd (n refl)
 stops t e lines a b d Memory served rest sent unsent n h = h
 
 module _ (t : NamedContext) (e lines : ℕ) (a b : DuplexState) where
-  ends : (d : DeskCount) (ended : Ended) (served : List Exchange) (rest sent unsent : Text)
+  ends : (d : DeskProgress) (ended : Ended) (served : List Exchange) (rest sent unsent : Text)
       → Stops t e lines a b ended served rest sent unsent
       → EndsTalk t e lines a b d ended served rest sent unsent
   ends d Quit served rest sent unsent h = h
@@ -98,7 +98,7 @@ module _ (t : NamedContext) (e lines : ℕ) (a b : DuplexState) where
   makes Memory served rest sent unsent entries made k h l = absurd h
 
 -- the expert left
-pub left : (t : NamedContext) (e lines : ℕ) (a b : DuplexState) (c d d' : DeskCount) (ended : Ended) (reply : SetReply) (n : ℕ) → n ≡ e
+pub left : (t : NamedContext) (e lines : ℕ) (a b : DuplexState) (c d d' : DeskProgress) (ended : Ended) (reply : SetReply) (n : ℕ) → n ≡ e
     → HasServed t e lines a b c d ended → ended ≢ Spent
     → d'.entries ≡ d.entries ++ record { event = Leave n; reply = reply } ∷ [] → TakesTurns 1 d.left d'.left
     → HasTalked t e lines a b c d' ended
@@ -125,7 +125,7 @@ left t e lines a b c d d' ended reply n same x unspent added' turn =
     }
 
 -- no turn was left to leave
-pub spent_late : (t : NamedContext) (e lines : ℕ) (a b : DuplexState) (c d d' : DeskCount) (ended : Ended) → HasServed t e lines a b c d ended
+pub spent_late : (t : NamedContext) (e lines : ℕ) (a b : DuplexState) (c d d' : DeskProgress) (ended : Ended) → HasServed t e lines a b c d ended
     → ended ≢ Spent → d'.entries ≡ d.entries
     → (d'.left ≡ Some 0) × TakesTurns 0 d.left d'.left → HasTalked t e lines a b c d' Spent
 spent_late t e lines a b c d d' ended x unspent same none =
@@ -145,7 +145,7 @@ spent_late t e lines a b c d d' ended x unspent same none =
     }
 
 -- there was no memory to leave
-pub unremembered : (t : NamedContext) (e lines : ℕ) (a b : DuplexState) (c d d' : DeskCount) (ended : Ended)
+pub unremembered : (t : NamedContext) (e lines : ℕ) (a b : DuplexState) (c d d' : DeskProgress) (ended : Ended)
     → HasServed t e lines a b c d ended
     → ended ≢ Spent → d'.entries ≡ d.entries
     → TakesTurns 1 d.left d'.left → HasTalked t e lines a b c d' Memory
@@ -166,7 +166,7 @@ unremembered t e lines a b c d d' ended x unspent same turn =
     }
 
 -- if turns are not shown, and never ran out, no talk ends because of them
-pub untold : (t : NamedContext) (e lines : ℕ) (a b : DuplexState) (c d : DeskCount) (ended : Ended) → HasTalked t e lines a b c d ended
+pub untold : (t : NamedContext) (e lines : ℕ) (a b : DuplexState) (c d : DeskProgress) (ended : Ended) → HasTalked t e lines a b c d ended
     → (d.left ≡ Some 0 → ⊥)
     → HasTalked t e lines a b (record { entries = c.entries; left = None }) (record { entries = d.entries; left = None }) ended
 untold t e lines a b c d ended x never = record {

@@ -12,7 +12,7 @@ use Rattle.expert_wire.specs.Greetings.{greeting}
 use Rattle.expert_sessions.specs.Lines.{HasNoFeed, BeginsWithEvent, Exchange, IsExchange, IsQuit, IsNotQuit, lines_of, answers_text}
 use Rattle.expert_sessions.specs.Lines.{entries_of, turns_of, said_line}
 use Rattle.expert_sessions.specs.Talks.{LinesServed, GoesOn, IsPartOfLine, IsTooLong, Stops}
-use Rattle.expert_sessions.specs.Moves.{DuplexState, Moves, IsQuiet, DeskCount, Enters}
+use Rattle.expert_sessions.specs.Moves.{DuplexState, Moves, IsQuiet, DeskProgress, Enters}
 use Rattle.expert_sessions.specs.declared.said.Said.{Said}
 use Rattle.expert_sessions.specs.declared.said.Said.TheVariants.{Replied, NoMemory}
 use Rattle.expert_sessions.specs.declared.ended.Ended.{Ended}
@@ -60,7 +60,7 @@ said_of (Err NoTurnMemory) = Ok NoMemory
 said_of (Err NoTurn) = Err Spent
 
 -- one line was served that is not `quit`
-pub record Serves (t : NamedContext) (e : ℕ) (a b : DuplexState) (c d : DeskCount) (ahead ahead' : Text) : Type 0 where
+pub record Serves (t : NamedContext) (e : ℕ) (a b : DuplexState) (c d : DeskProgress) (ahead ahead' : Text) : Type 0 where
   pub exchange : Exchange
   pub is : IsExchange t.context.width e exchange
   pub asking : IsNotQuit t.context.width exchange
@@ -71,7 +71,7 @@ pub record Serves (t : NamedContext) (e : ℕ) (a b : DuplexState) (c d : DeskCo
   pub read : ahead ++ taken ≡ (exchange.line ++ line_end) ++ ahead'
 
 -- why no line is served after these, of which there is at most one
-abbrev pub HaltsAt : (n e : ℕ) → DuplexState → DuplexState → DeskCount → Ended → List Exchange → Text → Text → Type 0
+abbrev pub HaltsAt : (n e : ℕ) → DuplexState → DuplexState → DeskProgress → Ended → List Exchange → Text → Text → Type 0
 HaltsAt n e a b d Quit more rest unsent = (x : Exchange) × (more ≡ x ∷ []) × IsQuit n x × (unsent ≡ []) × IsQuiet a b
 HaltsAt n e a b d WriteFault more rest unsent = (x : Exchange) × (more ≡ x ∷ []) × Rose a.write_faults b.write_faults
     × (b.read_faults ≡ a.read_faults)
@@ -83,7 +83,7 @@ HaltsAt n e a b d Spent more rest unsent = (more ≡ []) × (unsent ≡ []) × (
 HaltsAt n e a b d ended more rest unsent = ⊥
 
 -- no line is served after this one
-pub record Halts (t : NamedContext) (e : ℕ) (a b : DuplexState) (c d : DeskCount) (ahead : Text) (ended : Ended) : Type 0 where
+pub record Halts (t : NamedContext) (e : ℕ) (a b : DuplexState) (c d : DeskProgress) (ahead : Text) (ended : Ended) : Type 0 where
   pub more : List Exchange
   pub rest : Text
   pub taken : Text
@@ -99,7 +99,7 @@ pub record Halts (t : NamedContext) (e : ℕ) (a b : DuplexState) (c d : DeskCou
 -- ---- all lines
 
 -- the expert was greeted, and then k lines were served that are not `quit`
-pub record Goes (t : NamedContext) (e : ℕ) (a b : DuplexState) (c d : DeskCount) (ahead : Text) (k : ℕ) : Type 0 where
+pub record Goes (t : NamedContext) (e : ℕ) (a b : DuplexState) (c d : DeskProgress) (ahead : Text) (k : ℕ) : Type 0 where
   pub served : List Exchange
   pub each : All (IsExchange t.context.width e) served
   pub asking : All (IsNotQuit t.context.width) served
@@ -111,13 +111,13 @@ pub record Goes (t : NamedContext) (e : ℕ) (a b : DuplexState) (c d : DeskCoun
   pub read : taken ≡ lines_of served ++ ahead
 
 -- why no line is served any more: no turn is left, or a reason that lies not in the desk
-abbrev pub Closes : (t : NamedContext) (e lines : ℕ) → DuplexState → DuplexState → DeskCount → Ended → List Exchange → Text → Text → Text → Type 0
+abbrev pub Closes : (t : NamedContext) (e lines : ℕ) → DuplexState → DuplexState → DeskProgress → Ended → List Exchange → Text → Text → Text → Type 0
 Closes t e lines a b d Spent served rest sent unsent = (d.left ≡ Some 0) × GoesOn t.context.width lines served
     × BeginsWithEvent t.context.width e rest × (unsent ≡ []) × IsQuiet a b
 Closes t e lines a b d ended served rest sent unsent = Stops t e lines a b ended served rest sent unsent
 
 -- all lines were served, before the expert leaves
-pub record HasServed (t : NamedContext) (e lines : ℕ) (a b : DuplexState) (c d : DeskCount) (ended : Ended) : Type 0 where
+pub record HasServed (t : NamedContext) (e lines : ℕ) (a b : DuplexState) (c d : DeskProgress) (ended : Ended) : Type 0 where
   pub taken : Text
   pub sent : Text
   pub moves : Moves a b taken sent

@@ -30,12 +30,12 @@ pub record IsQuiet (a b : DuplexState) : Type 0 where
   pub write_faults : b.write_faults ≡ a.write_faults
 
 -- a desk: its entries, and the turns that are left, if turns are counted
-pub record DeskCount : Type 0 where
+pub record DeskProgress : Type 0 where
   pub entries : List SetEntry
   pub left : Option ℕ
 
-abbrev pub desk_count_of : DeskState → DeskCount
-desk_count_of desk = record { entries = desk.entries; left = desk.left }
+abbrev pub desk_progress_of : DeskState → DeskProgress
+desk_progress_of desk = record { entries = desk.entries; left = desk.left }
 
 -- at most k turns were taken, if turns are counted
 abbrev pub TakesTurnsAtMost : ℕ → Option ℕ → Option ℕ → Type 0
@@ -48,6 +48,6 @@ TakesTurns k None new = new ≡ None
 TakesTurns k (Some turns) new = (left : ℕ) × (new ≡ Some left) × (turns ≡ left + k)
 
 -- these entries were made, in k turns
-pub record Enters (c d : DeskCount) (made : List SetEntry) (k : ℕ) : Type 0 where
+pub record Enters (c d : DeskProgress) (made : List SetEntry) (k : ℕ) : Type 0 where
   pub added : d.entries ≡ c.entries ++ made
   pub turns : TakesTurns k c.left d.left

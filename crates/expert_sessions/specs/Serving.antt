@@ -4,7 +4,7 @@ use Rattle.fca_model.specs.Tables.{Text, NamedContext}
 use Rattle.fca_model.specs.Exploration.{SetEntry, own}
 use Rattle.explore_state.specs.History.{Opening}
 use Rattle.turn_lock.specs.Passes.{Lock, Belongs, IsFresh, badge}
-use Rattle.expert_sessions.specs.Moves.{DeskCount, end_state_of}
+use Rattle.expert_sessions.specs.Moves.{DeskProgress, end_state_of}
 use Rattle.expert_sessions.specs.Order.{ReadsInTurn}
 use Rattle.expert_sessions.specs.Talks.{HasTalked}
 use Rattle.expert_sessions.specs.declared.ended.Ended.{Ended}
@@ -21,7 +21,7 @@ pub record Suits (gate : Lock Opening) (t : NamedContext) (lines : ℕ) : Type 0
   pub turns : lines + 1 < gate.turns
 
 -- a desk of which only the entries are shown
-abbrev pub entries_alone : List SetEntry → DeskCount
+abbrev pub entries_alone : List SetEntry → DeskProgress
 entries_alone entries = record { entries = entries; left = None }
 
 -- over ends that show what is left and what is held, how often they were read, if they count that, and their counts of faults

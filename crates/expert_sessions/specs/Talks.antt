@@ -13,7 +13,7 @@ use Rattle.fca_model.specs.Exploration.{SetReply, SetEntry}
 use Rattle.expert_wire.specs.Greetings.{greeting}
 use Rattle.expert_sessions.specs.Lines.{HasNoFeed, BeginsWithEvent, Exchange, IsExchange, IsQuit, IsNotQuit, lines_of, answers_text}
 use Rattle.expert_sessions.specs.Lines.{entries_of, turns_of, before_last}
-use Rattle.expert_sessions.specs.Moves.{DuplexState, Moves, IsQuiet, DeskCount, Enters}
+use Rattle.expert_sessions.specs.Moves.{DuplexState, Moves, IsQuiet, DeskProgress, Enters}
 use Rattle.expert_sessions.specs.declared.ended.Ended.{Ended}
 use Rattle.expert_sessions.specs.declared.ended.Ended.TheVariants.{Quit, EndOfInput, ReadFault, WriteFault, LongLine, Limit, Spent, Memory}
 
@@ -85,7 +85,7 @@ module _ (t : NamedContext) (e lines : ℕ) (a b : DuplexState) where
       × IsQuiet a b) ⊎ ((reason : Ended) × Stops reason served rest sent unsent)
 
   -- the ending: if memory ran out in the leave, the session stopped for another reason
-  abbrev pub EndsTalk : DeskCount → Ended → List Exchange → Text → Text → Text → Type 0
+  abbrev pub EndsTalk : DeskProgress → Ended → List Exchange → Text → Text → Text → Type 0
   EndsTalk d Spent served rest sent unsent = (d.left ≡ Some 0) × Pauses served rest sent unsent
   EndsTalk d Memory served rest sent unsent = (reason : Ended) × Stops reason served rest sent unsent
   EndsTalk d ended served rest sent unsent = Stops ended served rest sent unsent
@@ -102,7 +102,7 @@ Makes e Memory entries k made turns = (made ≡ entries) × (turns ≡ k + 1)
 Makes e ended entries k made turns = AndLeaves e entries made × (turns ≡ k + 1)
 
 -- a session that had room for a line
-pub record IsServed (t : NamedContext) (e lines : ℕ) (a b : DuplexState) (d : DeskCount) (taken : Text) (made : List SetEntry) (turns : ℕ)
+pub record IsServed (t : NamedContext) (e lines : ℕ) (a b : DuplexState) (d : DeskProgress) (taken : Text) (made : List SetEntry) (turns : ℕ)
     (sent : Text) (ended : Ended) : Type 0 where
   pub course : LinesServed t e lines taken sent (Rose a.write_faults b.write_faults)
   pub entries : Makes e ended (entries_of course.served) (turns_of course.served) made turns
@@ -119,12 +119,12 @@ pub record IsRefused (a b : DuplexState) (taken : Text) (made : List SetEntry) (
 
 -- the talk of expert e, who may have this many lines served, over the table and between these two states of the end, which leaves
 -- the desk like d
-abbrev pub Talk : NamedContext → ℕ → ℕ → DuplexState → DuplexState → DeskCount → Text → List SetEntry → ℕ → Text → Ended → Type 0
+abbrev pub Talk : NamedContext → ℕ → ℕ → DuplexState → DuplexState → DeskProgress → Text → List SetEntry → ℕ → Text → Ended → Type 0
 Talk t e lines a b d taken made turns sent ended = IsRefused a b taken made turns sent ended
     ⊎ IsServed t e lines a b d taken made turns sent ended
 
 -- what the end lost, what was added to the entries of the desk in how many turns, and what the end gained is a talk
-pub record HasTalked (t : NamedContext) (e lines : ℕ) (a b : DuplexState) (c d : DeskCount) (ended : Ended) : Type 0 where
+pub record HasTalked (t : NamedContext) (e lines : ℕ) (a b : DuplexState) (c d : DeskProgress) (ended : Ended) : Type 0 where
   pub taken : Text
   pub made : List SetEntry
   pub turns : ℕ

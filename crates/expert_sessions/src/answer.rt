@@ -5,7 +5,7 @@ ghost use Rattle.fca_model.specs.Exploration.{SetEvent, SetEntry};
 ghost use Rattle.expert_wire.specs.Requests.{request_form};
 ghost use Rattle.expert_gate.specs.Desks.{Works};
 ghost use Rattle.expert_sessions.specs.Lines.{Asks, Says};
-ghost use Rattle.expert_sessions.specs.Moves.{Enters, desk_count_of};
+ghost use Rattle.expert_sessions.specs.Moves.{Enters, desk_progress_of};
 ghost use Rattle.expert_sessions.specs.Courses.{said_of};
 
 use crate::ended::Ended;
@@ -29,9 +29,9 @@ pub(crate) fn answer<D: Desk>(
     ensures width { D.attribute_count desk.new ≡ D.attribute_count desk.old }
     ensures answered { IfOk result (λ said. (made : List SetEntry) × (turns : ℕ)
         × Says (D.state desk.old).number (request_form line.now table.now.context.width) said made turns
-        × Enters (desk_count_of (D.state desk.old)) (desk_count_of (D.state desk.new)) made turns) }
+        × Enters (desk_progress_of (D.state desk.old)) (desk_progress_of (D.state desk.new)) made turns) }
     ensures spent { IfErr result (λ ended. (ended ≡ Ended.Spent) × ((D.state desk.new).left ≡ Some 0)
-        × Enters (desk_count_of (D.state desk.old)) (desk_count_of (D.state desk.new)) [] 0
+        × Enters (desk_progress_of (D.state desk.old)) (desk_progress_of (D.state desk.new)) [] 0
         × (event : SetEvent) × Asks (D.state desk.old).number (request_form line.now table.now.context.width) event) }
 {
     match read_request(alloc, line, table.rows().width()) {

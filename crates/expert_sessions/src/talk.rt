@@ -3,7 +3,7 @@
 ghost use Rattle.std.specs.Prelude.{◌≡◌, ◌≤◌, ◌+◌, [], OnOk, IfErr};
 ghost use Rattle.fca_model.specs.declared.TheConstants.{MAX_LINES};
 ghost use Rattle.expert_gate.specs.Desks.{Works};
-ghost use Rattle.expert_sessions.specs.Moves.{TakesTurnsAtMost, end_state_of, desk_count_of};
+ghost use Rattle.expert_sessions.specs.Moves.{TakesTurnsAtMost, end_state_of, desk_progress_of};
 ghost use Rattle.expert_sessions.specs.Talks.{HasTalked};
 ghost use Rattle.expert_sessions.specs.Courses.{Serves, Halts, HasServed};
 ghost use Rattle.expert_sessions.specs.Order.{ReadsForLine, ReadsInTurn};
@@ -33,7 +33,7 @@ pub fn session<D: Desk, E: Duplex>(
     ensures talk { HasTalked table.now expert lines
         (end_state_of E.Source.left E.Sink.held E.Source.faults E.Sink.faults end.old)
         (end_state_of E.Source.left E.Sink.held E.Source.faults E.Sink.faults end.new)
-        (desk_count_of (D.state desk.old)) (desk_count_of (D.state desk.new)) result }
+        (desk_progress_of (D.state desk.old)) (desk_progress_of (D.state desk.new)) result }
     ensures order { ReadsInTurn E.Source.left E.Sink.held E.Source.reads E.Source.faults E.Sink.faults table.now expert end.old end.new }
     ensures turns { TakesTurnsAtMost (lines + 1) (D.state desk.old).left (D.state desk.new).left }
     ensures desk { Works (D.state desk.old) (D.state desk.new) }
@@ -68,7 +68,7 @@ fn serve_lines<D: Desk, E: Duplex>(
     ensures served { HasServed table.now expert lines
         (end_state_of E.Source.left E.Sink.held E.Source.faults E.Sink.faults end.old)
         (end_state_of E.Source.left E.Sink.held E.Source.faults E.Sink.faults end.new)
-        (desk_count_of (D.state desk.old)) (desk_count_of (D.state desk.new)) result }
+        (desk_progress_of (D.state desk.old)) (desk_progress_of (D.state desk.new)) result }
     ensures order { ReadsInTurn E.Source.left E.Sink.held E.Source.reads E.Source.faults E.Sink.faults table.now expert end.old end.new }
     ensures desk { Works (D.state desk.old) (D.state desk.new) }
     ensures width { D.attribute_count desk.new ≡ D.attribute_count desk.old }
@@ -96,12 +96,12 @@ fn serve_line<D: Desk, E: Duplex>(
     ensures served { OnOk result (Serves table.now (D.state desk.old).number
         (end_state_of E.Source.left E.Sink.held E.Source.faults E.Sink.faults end.old)
         (end_state_of E.Source.left E.Sink.held E.Source.faults E.Sink.faults end.new)
-        (desk_count_of (D.state desk.old)) (desk_count_of (D.state desk.new))
+        (desk_progress_of (D.state desk.old)) (desk_progress_of (D.state desk.new))
         ahead.old ahead.new) }
     ensures halted { IfErr result (Halts table.now (D.state desk.old).number
         (end_state_of E.Source.left E.Sink.held E.Source.faults E.Sink.faults end.old)
         (end_state_of E.Source.left E.Sink.held E.Source.faults E.Sink.faults end.new)
-        (desk_count_of (D.state desk.old)) (desk_count_of (D.state desk.new))
+        (desk_progress_of (D.state desk.old)) (desk_progress_of (D.state desk.new))
         ahead.old) }
     ensures order { ReadsForLine E.Source.left E.Sink.held E.Source.reads E.Source.faults E.Sink.faults ahead.old end.old end.new }
     ensures desk { Works (D.state desk.old) (D.state desk.new) }

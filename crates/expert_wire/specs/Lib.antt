@@ -1,7 +1,7 @@
 pub mod Parts
 pub mod Texts
 pub mod Replies
-pub mod Words
+pub mod Patterns
 pub mod Requests
 pub mod Lines
 pub mod Greetings

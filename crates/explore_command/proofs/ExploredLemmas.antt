@@ -45,7 +45,7 @@ use Rattle.command_io.specs.Readings.Reading.{Read}
 use Rattle.command_io.specs.Explorations.{opening_of, last_open}
 use Rattle.command_io.proofs.CourseLemmas.{legal-course}
 use Rattle.explore_command.specs.Starts.{ExploreStart, MayOpen}
-use Rattle.explore_command.specs.Explored.{IsShare, dropped_in, exploring_record, explored_text, recorded_text, basis_alone, IsExploredText}
+use Rattle.explore_command.specs.Explored.{IsShare, dropped_in, exploration_of_start, explored_text, recorded_text, basis_alone, IsExploredText}
 use Rattle.explore_command.specs.Explored.{with_conflicts, text_with_conflicts, HasExplored, explored_ending, MayExplore}
 
 dropped-oracles : (H : List SetEntry) (e : ℕ) (oracles : List Recall)
@@ -153,7 +153,7 @@ explored-oracles p o n (Ok r) may opened count opening legal tables shares other
       tables = tables;
       shares = shares;
       others = subst Others count others;
-      unfinished = subst Unfinished count unfinished;
+      spent = subst Unfinished count unfinished;
       finished = finished;
       unspent = λ few. unspent refl (subst Few (sym opened) few);
       agreed = λ C same part respected. agreed C same
@@ -250,7 +250,7 @@ agreed-explored p explore oracles spent text explored whole C same part respecte
     let agreed = explored.agreed C same part respected in
     let B = basis_known p.settings.known C in
     let legal : IsLegal (opening_state o) H = subst (λ (x : Opening). IsLegal (opening_state x) H) explored.opening explored.legal in
-    let done : last_open (exploring_record p H) ≡ [] = subst
+    let done : last_open (exploration_of_start p H) ≡ [] = subst
     (λ (x : Opening). open_of (record { opening = x; journal = H; spare = 0 }) ≡ []) explored.opening (explored.finished unspent) in
     let same_basis : basis_known p.settings.known (state_of_history p.table p.settings H).context ≡ B =
     subst (λ (x : Opening). basis_known x.settings.known (state_after (opening_state x) (events_of H)).context
@@ -286,7 +286,7 @@ IsExploredText-explored p explore oracles spent text expert explored whole spell
           subst P explored.tables
           (shares-tables p.table p.settings H explored.may.respected explored.may.free legal oracles few explored.shares));
       others = explored.others;
-      unfinished = explored.unfinished;
+      spent = explored.spent;
       finished = subst Open explored.opening explored.finished;
       unspent = explored.unspent;
       agreed = agreed-explored p explore oracles spent text explored whole;

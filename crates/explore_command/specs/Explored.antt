@@ -10,7 +10,7 @@ use Rattle.fca_model.specs.Exploration.{SetEntry, rules_of, own, IsLegal}
 use Rattle.explore_state.specs.History.{ExploreModel, opening_state, state_of, open_of}
 use Rattle.fca_model.specs.declared.TheConstants.{MAX_SURVEYED, MAX_TURNS}
 use Rattle.fca_model.specs.declared.Event.TheVariants.{Draw}
-use Rattle.oracle_expert.specs.Counts.{answers_recorded_in, dropped}
+use Rattle.oracle_expert.specs.Counts.{answers_recorded_in, dropped_count}
 use Rattle.oracle_expert.specs.Intents.{HasIntentsOf, are_intents}
 use Rattle.oracle_expert.specs.Oracles.{Recall, Conflicts}
 use Rattle.oracle_expert.specs.Runs.{IsOracleFront, ends_done, conflicts_of}
@@ -31,7 +31,7 @@ use Rattle.explore_command.specs.Starts.{ExploreStart, MayOpen}
 pub record IsShare (H : List SetEntry) (e : ℕ) (D : NamedContext) : Type 0 where
   pub front : IsOracleFront D e (own H e)
   pub end : (ends_done (own H e) ≡ true) ⊎ ((ends_done (own H e) ≡ false) × (length (own H e) ≡ MAX_TURNS))
-  pub within : length (own H e) ≤ 2 * answers_recorded_in H + dropped (conflicts_of D (own H e)) + 1
+  pub within : length (own H e) ≤ 2 * answers_recorded_in H + dropped_count (conflicts_of D (own H e)) + 1
   pub apart : (before between after : List SetEntry) (first second : SetEntry) → H ≡ before ++ (first ∷ between ++ second ∷ after)
       → first.event ≡ Draw e → second.event ≡ Draw e → 1 ≤ answers_recorded_in between
 
@@ -41,20 +41,20 @@ dropped_in H e [] = []
 dropped_in H e (D ∷ experts) = (D, conflicts_of D (own H e)) ∷ dropped_in H (e + 1) experts
 
 -- the exploration of the start's table that has this history
-abbrev pub exploring_record : ExploreStart → List SetEntry → Exploration
-exploring_record start H = record { opening = opening_of start.table (length start.expert_tables) start.settings; journal = H }
+abbrev pub exploration_of_start : ExploreStart → List SetEntry → Exploration
+exploration_of_start start H = record { opening = opening_of start.table (length start.expert_tables) start.settings; journal = H }
 
 -- its text, and the conflicts
 abbrev pub explored_text : ExploreStart → List SetEntry → Text
 explored_text start H =
     explore_text start.table start.settings H
-    ++ conflicts_text start.table.attributes (rules_of (last_state (exploring_record start H))) (dropped_in H 1 start.expert_tables)
+    ++ conflicts_text start.table.attributes (rules_of (last_state (exploration_of_start start H))) (dropped_in H 1 start.expert_tables)
 
 -- what its text says before the open questions
 abbrev pub recorded_text : ExploreStart → List SetEntry → Text
 recorded_text start H =
     transcript start.table.attributes start.settings H ++ (recorded_section H
-    ++ accepted_section start.table.attributes (length start.settings.known) (last_state (exploring_record start H)).accepted)
+    ++ accepted_section start.table.attributes (length start.settings.known) (last_state (exploration_of_start start H)).accepted)
 
 -- `# open 0`; then the lines of the basis; then `# conflicts 0`
 abbrev pub basis_alone : List Text → List Rule → Text
@@ -65,18 +65,18 @@ basis_alone attributes J =
 -- up its turns, the exploration is spent, or else no question is open at its end. With at most MAX_SURVEYED attributes it is never spent.
 -- If all experts' tables have the intents of one context C, each row of the start's table is such an intent, and each row of C respects
 -- what is known, the text ends with the basis of C beside what is known, in lectic order, and no conflict
-pub record IsExploredText (start : ExploreStart) (text : Text) (spent : Bool) : Type 0 where
+pub record IsExploredText (start : ExploreStart) (text : Text) (some_spent : Bool) : Type 0 where
   pub history : List SetEntry
   pub whole : text ≡ explored_text start history
   pub spells : Spells start.table start.settings history text
-  pub course : IsExplored (exploring_record start history)
+  pub course : IsExplored (exploration_of_start start history)
   pub shares : EachNumbered (IsShare history) start.expert_tables
   pub others : (e : ℕ) → (e ≡ 0) ⊎ (length start.expert_tables < e) → own history e ≡ []
-  pub unfinished : (spent ≡ true) ↔ ((e : ℕ) × (1 ≤ e) × (e ≤ length start.expert_tables) × (ends_done (own history e) ≡ false))
-  pub finished : spent ≡ false → last_open (exploring_record start history) ≡ []
-  pub unspent : start.table.context.width ≤ MAX_SURVEYED → spent ≡ false
+  pub spent : (some_spent ≡ true) ↔ ((e : ℕ) × (1 ≤ e) × (e ≤ length start.expert_tables) × (ends_done (own history e) ≡ false))
+  pub finished : some_spent ≡ false → last_open (exploration_of_start start history) ≡ []
+  pub unspent : start.table.context.width ≤ MAX_SURVEYED → some_spent ≡ false
   pub agreed : (C : Context) → All (λ D. HasIntentsOf C D.context) start.expert_tables → are_intents C start.table.context.rows ≡ true
-      → rows_respect start.settings.known C ≡ true → spent ≡ false
+      → rows_respect start.settings.known C ≡ true → some_spent ≡ false
       → text ≡ recorded_text start history ++ basis_alone start.table.attributes (basis_known start.settings.known C)
 
 -- ---- the exploration as it ended
@@ -91,18 +91,18 @@ text_with_conflicts explore oracles = explore_text explore.opening.table explore
     ++ conflicts_text explore.opening.table.attributes (rules_of (state_of explore)) (map with_conflicts oracles)
 
 -- an exploration of the start's table by oracles of the experts' tables, as it ended
-pub record HasExplored (start : ExploreStart) (explore : ExploreModel) (oracles : List Recall) (spent : Bool) : Type 0 where
+pub record HasExplored (start : ExploreStart) (explore : ExploreModel) (oracles : List Recall) (some_spent : Bool) : Type 0 where
   pub may : MayOpen start.table start.settings
   pub opening : explore.opening ≡ opening_of start.table (length start.expert_tables) start.settings
   pub legal : IsLegal (opening_state explore.opening) explore.journal
   pub tables : map (λ oracle. oracle.table) oracles ≡ start.expert_tables
   pub shares : EachNumbered (IsOraclesShare MAX_TURNS explore.journal) oracles
   pub others : (e : ℕ) → (e ≡ 0) ⊎ (length start.expert_tables < e) → own explore.journal e ≡ []
-  pub unfinished : (spent ≡ true) ↔ ((e : ℕ) × (1 ≤ e) × (e ≤ length start.expert_tables) × (ends_done (own explore.journal e) ≡ false))
-  pub finished : spent ≡ false → open_of explore ≡ []
-  pub unspent : start.table.context.width ≤ MAX_SURVEYED → spent ≡ false
+  pub spent : (some_spent ≡ true) ↔ ((e : ℕ) × (1 ≤ e) × (e ≤ length start.expert_tables) × (ends_done (own explore.journal e) ≡ false))
+  pub finished : some_spent ≡ false → open_of explore ≡ []
+  pub unspent : start.table.context.width ≤ MAX_SURVEYED → some_spent ≡ false
   pub agreed : (C : Context) → All (λ D. HasIntentsOf C D.context) start.expert_tables → are_intents C start.table.context.rows ≡ true
-      → rows_respect start.settings.known C ≡ true → HasAgreed C explore oracles spent
+      → rows_respect start.settings.known C ≡ true → HasAgreed C explore oracles some_spent
 
 -- ---- the output
 

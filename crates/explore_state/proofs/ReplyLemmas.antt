@@ -10,7 +10,7 @@ use Rattle.fca_model.specs.Sets.{Set, within, same}
 use Rattle.fca_model.specs.Context.{Context}
 use Rattle.fca_model.specs.Implications.{Rule, rule, respects, respects_all, refutes, holds}
 use Rattle.fca_model.specs.Questions.{has_premise}
-use Rattle.fca_model.specs.Invariant.{IsHeld}
+use Rattle.fca_model.specs.Invariant.{MayBeHeld}
 use Rattle.fca_model.specs.Exploration.{State, RowName, SetHold, SetReply, rules_of, held_by, given_back, first_with, first_missing}
 use Rattle.fca_model.specs.Exploration.{confirm_reply}
 use Rattle.fca_model.specs.Exploration.{confirm_unrefuted, confirm_unheard, row_reply, row_fitting, row_refuting, row_unbroken, reply_to}
@@ -49,9 +49,9 @@ module _ (S : List Rule) (K : Context) (acc : List Rule) (hs : List SetHold) whe
       let may = held_valid s due.valid e q mine in
       let here = unrefuted_holds s.context q may.conclusion_wide told.0 in
       record {
-        held = subst (λ T. IsHeld T K acc q) due.known
-            (subst (λ J. IsHeld s.settings.known K J q) due.shown.accepted
-            (subst (λ L. IsHeld s.settings.known L s.accepted q) due.shown.context may));
+        may_be_held = subst (λ T. MayBeHeld T K acc q) due.known
+            (subst (λ J. MayBeHeld s.settings.known K J q) due.shown.accepted
+            (subst (λ L. MayBeHeld s.settings.known L s.accepted q) due.shown.context may));
         holds = subst (λ L. holds L q ≡ true) due.shown.context here;
         new = subst (λ J. has_premise J q.premise ≡ false) due.shown.accepted told.1;
       }

@@ -3,7 +3,7 @@ use Rattle.std.specs.Prelude.{◌≡◌, true, false, Option, Some, None, List, 
 use Rattle.fca_model.specs.Context.{Context}
 use Rattle.fca_model.specs.Implications.{Rule, holds}
 use Rattle.fca_model.specs.Questions.{has_premise}
-use Rattle.fca_model.specs.Invariant.{IsHeld, IsValid, rows_respect}
+use Rattle.fca_model.specs.Invariant.{MayBeHeld, IsValid, rows_respect}
 use Rattle.fca_model.specs.Exploration.{State, SetHold, SetEvent, SetReply, SetEntry, reply_to, state_after, events_of, expert_of}
 use Rattle.fca_model.specs.Exploration.{has_row_of_width, is_expert, IsLegal}
 use Rattle.explore_state.specs.History.{Opening, opening_state}
@@ -39,6 +39,6 @@ with_held (Some q) acc = acc ++ q ∷ []
 
 -- the question may be held, it holds in the rows, and no accepted implication has its premise
 pub record IsTimely (S : List Rule) (K : Context) (acc : List Rule) (q : Rule) : Type 0 where
-  pub held : IsHeld S K acc q
+  pub may_be_held : MayBeHeld S K acc q
   pub holds : holds K q ≡ true
   pub new : has_premise acc q.premise ≡ false

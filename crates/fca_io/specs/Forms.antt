@@ -5,32 +5,32 @@ use Rattle.fca_io.specs.Faults.{one_more}
 use Rattle.fca_io.specs.Shelves.{NamedBytes}
 
 -- the numbers of the calls that fail, counted from 1, and the counts of calls and of faults
-pub record Plan : Type 0 where
+pub record FailurePlan : Type 0 where
   pub fails : List ℕ
   pub made : ℕ
   pub faults : ℕ
 
 -- the plan before the first call
-abbrev pub plan_of : List ℕ → Plan
-plan_of fails = record { fails = fails; made = 0; faults = 0 }
+abbrev pub failure_plan_of : List ℕ → FailurePlan
+failure_plan_of fails = record { fails = fails; made = 0; faults = 0 }
 
 -- whether the next call fails
-abbrev pub fails_next : Plan → Bool
+abbrev pub fails_next : FailurePlan → Bool
 fails_next p = list_any (λ n. n == one_more p.made) p.fails
 
 -- the plan with one fault more
-abbrev pub with_fault : Plan → Plan
+abbrev pub with_fault : FailurePlan → FailurePlan
 with_fault p = record p { faults = one_more p.faults }
 
 -- the plan after the next call
-abbrev pub after_call : Plan → Plan
+abbrev pub after_call : FailurePlan → FailurePlan
 after_call p = record { fails = p.fails; made = one_more p.made; faults = cond (fails_next p) (one_more p.faults) p.faults }
 
 -- the bytes that a source has left or that a sink holds, and the most that one call moves
 pub record Stream : Type 0 where
   pub bytes : List ℕ
   pub most : ℕ
-  pub plan : Plan
+  pub plan : FailurePlan
 
 -- a sink that holds no more than its room, and counts the writes that it took whole
 pub record BoundedSink : Type 0 where
@@ -38,9 +38,9 @@ pub record BoundedSink : Type 0 where
   pub most : ℕ
   pub room : ℕ
   pub whole_writes : ℕ
-  pub plan : Plan
+  pub plan : FailurePlan
 
 -- the files of a shelf, the newest first
 pub record Files : Type 0 where
   pub files : List NamedBytes
-  pub plan : Plan
+  pub plan : FailurePlan

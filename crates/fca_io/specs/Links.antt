@@ -1,6 +1,6 @@
 -- Listeners: the ends that are to come and those that were given back, if a listener tells them, and the forms in memory.
 use Rattle.std.specs.Prelude.{◌≡◌, ⊤, ℕ, ◌+◌, ◌≤◌, nat_lt, Bool, cond, Option, None, Some, List, [], ◌∷◌, ◌++◌, length}
-use Rattle.fca_io.specs.Forms.{Plan, Stream, BoundedSink}
+use Rattle.fca_io.specs.Forms.{FailurePlan, Stream, BoundedSink}
 
 -- the ends that are still to come, those that were given back, and how many both together may be
 pub record Ends (E : Type 0) : Type 0 where
@@ -41,4 +41,4 @@ pub record Link : Type 0 where
   pub address : List ℕ
   pub listens : Bool
   pub ends : Ends Wire
-  pub plan : Plan
+  pub plan : FailurePlan

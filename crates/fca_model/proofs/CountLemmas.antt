@@ -16,7 +16,7 @@ use Rattle.fca_model.specs.Context.{Context, closure, is_closed, with_row}
 use Rattle.fca_model.specs.Implications.{Rule, rule, respects, holds, refutes}
 use Rattle.fca_model.specs.Pseudo.{intents}
 use Rattle.fca_model.specs.Questions.{has_premise}
-use Rattle.fca_model.specs.Invariant.{is_member, distinct_premises}
+use Rattle.fca_model.specs.Invariant.{is_member, have_distinct_premises}
 use Rattle.fca_model.specs.SetLaws.{same_equiv}
 use Rattle.fca_model.proofs.ListLemmas.{list_all-mono}
 use Rattle.fca_model.proofs.SetLemmas.{within_trans, same-true, same_from, all_sets_from}
@@ -88,11 +88,11 @@ length-without P (X ∷ N) h = go (same P X) h (length-without P N)
     go false h rest = omega (arith, rest h)
 
 -- different premises that all stand in a list of sets are no more than it has members
-pub distinct_fit : (J : List Rule) (N : List Set) → distinct_premises J ≡ true → list_all (λ i. list_any (same i.premise) N) J ≡ true
+pub distinct_fit : (J : List Rule) (N : List Set) → have_distinct_premises J ≡ true → list_all (λ i. list_any (same i.premise) N) J ≡ true
     → length J ≤ length N
 distinct_fit [] N d a = omega arith
 distinct_fit (i ∷ J) N d a =
-    let ds = and_parts (not (has_premise J i.premise)) (distinct_premises J) d in
+    let ds = and_parts (not (has_premise J i.premise)) (have_distinct_premises J) d in
     let parts = and_parts (list_any (same i.premise) N) (list_all (λ i. list_any (same i.premise) N) J) a in
     let rest = distinct_fit J (filter (λ X. not (same i.premise X)) N) ds.1 (others J (not-true (has_premise J i.premise) ds.0) parts.1) in
     omega (arith, rest, length-without i.premise N parts.0)
@@ -128,7 +128,7 @@ length-all_sets (suc n) =
 
 -- members of the basis with different premises, and the intents
 pub intents_and_accepted : (S : List Rule) (K : Context) (acc : List Rule) → list_all (is_member S K) acc ≡ true
-    → distinct_premises acc ≡ true → length (intents K) + length acc ≤ 2 ^ K.width
+    → have_distinct_premises acc ≡ true → length (intents K) + length acc ≤ 2 ^ K.width
 unfolding intents
 intents_and_accepted S K acc m d =
     let N = filter (λ A. not (is_closed K A)) (all_sets K.width) in

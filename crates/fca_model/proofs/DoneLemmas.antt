@@ -16,7 +16,7 @@ use Rattle.fca_model.specs.Context.{Context, closure}
 use Rattle.fca_model.specs.Implications.{Rule, rule, premises, respects, respects_all, holds, follows, equivalent}
 use Rattle.fca_model.specs.Pseudo.{pseudo_known, basis_known}
 use Rattle.fca_model.specs.Questions.{has_premise, open_questions}
-use Rattle.fca_model.specs.Invariant.{Among, is_member, IsAccepted, SameMembers, distinct_premises}
+use Rattle.fca_model.specs.Invariant.{Among, is_member, IsAccepted, SameMembers, have_distinct_premises}
 use Rattle.fca_model.proofs.ListLemmas.{bool_iff, list_all-and, list_any_at, list_any-not, list_any-map}
 use Rattle.fca_model.proofs.SetLemmas.{same-true, same_refl, lectic_refl, all_sets_increasing, all_sets_agree}
 use Rattle.fca_model.proofs.SortedLemmas.{same_members, increasing-filter}
@@ -29,11 +29,11 @@ use Rattle.fca_model.proofs.LeastLemmas.{least_equivalent}
 -- ---- a list in lectic order
 
 -- premises in order are different
-distinct_from_increasing : (J : List Rule) → increasing (premises J) ≡ true → distinct_premises J ≡ true
+distinct_from_increasing : (J : List Rule) → increasing (premises J) ≡ true → have_distinct_premises J ≡ true
 distinct_from_increasing [] h = refl
 distinct_from_increasing (i ∷ J) h =
     let parts = and_parts (list_all (λ B. is_lt (lectic_cmp i.premise B)) (premises J)) (increasing (premises J)) h in
-    and_from (not (has_premise J i.premise)) (distinct_premises J) (ap not (absent J parts.0)) (distinct_from_increasing J parts.1)
+    and_from (not (has_premise J i.premise)) (have_distinct_premises J) (ap not (absent J parts.0)) (distinct_from_increasing J parts.1)
   where
     absent : (is : List Rule) → list_all (λ B. is_lt (lectic_cmp i.premise B)) (premises is) ≡ true → has_premise is i.premise ≡ false
     absent is a = false_from_ne_true (has_premise is i.premise) (λ t.
@@ -90,7 +90,7 @@ module _ (S : List Rule) (K : Context) where
       ∙ sym (by_premises S K B basis_members)
 
   -- lists of members with different premises and the same members have one length
-  pub same_length : (J L : List Rule) → SameMembers J L → distinct_premises J ≡ true → length J ≤ length L
+  pub same_length : (J L : List Rule) → SameMembers J L → have_distinct_premises J ≡ true → length J ≤ length L
   same_length J L h d =
       let within_J : list_all (λ i. list_any (same i.premise) (premises L)) J ≡ true =
       each (λ i. list_any (same i.premise) (premises L)) J (λ i in_J.

@@ -1,7 +1,7 @@
 -- A step has less room after it tried an attribute, and this is so even together with the room of a step at a later attribute.
 use Rattle.std.proofs.Common.{◌≡◌, ◌<◌, ◌≤◌, ◌+◌, ◌*◌, ◌-◌, ◌^◌, ℕ, suc, ap, ◌∙◌, arith, pow_mono, pow_pos, pow-suc}
 use Rattle.std.proofs.Math.Pow.{pow-lt}
-use Rattle.fca_model.specs.Room.{steps_bound}
+use Rattle.fca_model.specs.StepBounds.{steps_bound}
 
 -- the first `end` was replaced by an earlier one
 pub room_less : (n from i end : ℕ) → from ≤ i → i < end → end ≤ n → steps_bound n from i < steps_bound n from end

@@ -20,7 +20,7 @@ use Rattle.fca_model.specs.Exploration.{all_held, least_held, asked, draw_reply,
 use Rattle.fca_model.specs.Exploration.{state_after, expert_of, is_expert}
 use Rattle.fca_model.specs.declared.Event.TheVariants.{Draw}
 use Rattle.fca_model.specs.declared.Reply.TheVariants.{AllHeld}
-use Rattle.fca_model.specs.Invariant.{Among, IsHeld, IsValid, rows_respect, is_holding, distinct_experts}
+use Rattle.fca_model.specs.Invariant.{Among, MayBeHeld, IsValid, rows_respect, is_holding, have_distinct_experts}
 use Rattle.fca_model.proofs.ListLemmas.{filter_all}
 use Rattle.fca_model.proofs.ClosureLemmas.{holds_by_rows}
 use Rattle.fca_model.proofs.InvariantLemmas.{row_keeps_accepted, row_keeps_held, confirm_keeps_accepted, confirm_keeps_held}
@@ -38,25 +38,25 @@ is_holding-given_back (h ∷ hs) e f n =
       | false ↦ or_from (eqb h.expert f) (is_holding (given_back e hs) f) ns.0 (is_holding-given_back hs e f ns.1)
     ]
 
-distinct_parts : (h : SetHold) (hs : List SetHold) → distinct_experts (h ∷ hs) ≡ true
-    → (is_expert h.expert ≡ true) × (is_holding hs h.expert ≡ false) × (distinct_experts hs ≡ true)
+distinct_parts : (h : SetHold) (hs : List SetHold) → have_distinct_experts (h ∷ hs) ≡ true
+    → (is_expert h.expert ≡ true) × (is_holding hs h.expert ≡ false) × (have_distinct_experts hs ≡ true)
 distinct_parts h hs d =
-    let outer = and_parts (is_expert h.expert && not (is_holding hs h.expert)) (distinct_experts hs) d in
+    let outer = and_parts (is_expert h.expert && not (is_holding hs h.expert)) (have_distinct_experts hs) d in
     let inner = and_parts (is_expert h.expert) (not (is_holding hs h.expert)) outer.0 in
     (inner.0, not-true (is_holding hs h.expert) inner.1, outer.1)
 
-distinct_from : (h : SetHold) (hs : List SetHold) → is_expert h.expert ≡ true → is_holding hs h.expert ≡ false → distinct_experts hs ≡ true
-    → distinct_experts (h ∷ hs) ≡ true
-distinct_from h hs i n d = and_from (is_expert h.expert && not (is_holding hs h.expert)) (distinct_experts hs)
+distinct_from : (h : SetHold) (hs : List SetHold) → is_expert h.expert ≡ true → is_holding hs h.expert ≡ false → have_distinct_experts hs ≡ true
+    → have_distinct_experts (h ∷ hs) ≡ true
+distinct_from h hs i n d = and_from (is_expert h.expert && not (is_holding hs h.expert)) (have_distinct_experts hs)
     (and_from (is_expert h.expert) (not (is_holding hs h.expert)) i (ap not n)) d
 
-pub distinct_experts-given_back : (e : ℕ) (hs : List SetHold) → distinct_experts hs ≡ true → distinct_experts (given_back e hs) ≡ true
-distinct_experts-given_back e [] d = refl
-distinct_experts-given_back e (h ∷ hs) d =
+pub have_distinct_experts-given_back : (e : ℕ) (hs : List SetHold) → have_distinct_experts hs ≡ true → have_distinct_experts (given_back e hs) ≡ true
+have_distinct_experts-given_back e [] d = refl
+have_distinct_experts-given_back e (h ∷ hs) d =
     let ds = distinct_parts h hs d in
-    elim (eqb h.expert e) as (λ b. distinct_experts (cond (not b) (h ∷ given_back e hs) (given_back e hs)) ≡ true) [
-      | true ↦ distinct_experts-given_back e hs ds.2
-      | false ↦ distinct_from h (given_back e hs) ds.0 (is_holding-given_back hs e h.expert ds.1) (distinct_experts-given_back e hs ds.2)
+    elim (eqb h.expert e) as (λ b. have_distinct_experts (cond (not b) (h ∷ given_back e hs) (given_back e hs)) ≡ true) [
+      | true ↦ have_distinct_experts-given_back e hs ds.2
+      | false ↦ distinct_from h (given_back e hs) ds.0 (is_holding-given_back hs e h.expert ds.1) (have_distinct_experts-given_back e hs ds.2)
     ]
 
 -- after e's hold was given back, e holds nothing
@@ -69,16 +69,16 @@ none_held e (h ∷ hs) = go (eqb h.expert e) refl (none_held e hs)
     go true t rest = rest
     go false f rest = or_from (eqb h.expert e) (is_holding (given_back e hs) e) f rest
 
-distinct_experts-push : (hs : List SetHold) (h : SetHold) → is_expert h.expert ≡ true → is_holding hs h.expert ≡ false
-    → distinct_experts hs ≡ true → distinct_experts (hs ++ h ∷ []) ≡ true
-distinct_experts-push [] h i n d = distinct_from h [] i refl refl
-distinct_experts-push (g ∷ hs) h i n d =
+have_distinct_experts-push : (hs : List SetHold) (h : SetHold) → is_expert h.expert ≡ true → is_holding hs h.expert ≡ false
+    → have_distinct_experts hs ≡ true → have_distinct_experts (hs ++ h ∷ []) ≡ true
+have_distinct_experts-push [] h i n d = distinct_from h [] i refl refl
+have_distinct_experts-push (g ∷ hs) h i n d =
     let ns = or_parts (eqb g.expert h.expert) (is_holding hs h.expert) n in
     let ds = distinct_parts g hs d in
     let other : eqb h.expert g.expert ≡ false = not_equal h.expert g.expert ns.0 in
     distinct_from g (hs ++ h ∷ []) ds.0 (list_any-append (λ x. eqb x.expert g.expert) hs (h ∷ [])
     ∙ or_from (is_holding hs g.expert) (eqb h.expert g.expert || false) ds.1 (or_from (eqb h.expert g.expert) false other refl))
-    (distinct_experts-push hs h i ns.1 ds.2)
+    (have_distinct_experts-push hs h i ns.1 ds.2)
   where
     not_equal : (a b : ℕ) → eqb b a ≡ false → eqb a b ≡ false
     not_equal a b f = elim (cases_Bool (eqb a b)) [
@@ -116,8 +116,8 @@ unrefuted_holds K q e h = holds_by_rows K q e ∙ each_respects K.rows h
         turn false b h = refl
 
 module _ (s : State) (v : IsValid s) where
-  pub held_valid : (e : ℕ) (q : Rule) → held_by e s.held ≡ Some q → IsHeld s.settings.known s.context s.accepted q
-  held_valid e q h = held_all (IsHeld s.settings.known s.context s.accepted) e s.held q v.held h
+  pub held_valid : (e : ℕ) (q : Rule) → held_by e s.held ≡ Some q → MayBeHeld s.settings.known s.context s.accepted q
+  held_valid e q h = held_all (MayBeHeld s.settings.known s.context s.accepted) e s.held q v.held h
 
   -- the parts of the rules
   pub rules_parts : (r : Set) → respects_all (rules_of s) r ≡ true
@@ -129,22 +129,22 @@ module _ (s : State) (v : IsValid s) where
   release_valid e = record {
     known = v.known;
     accepted = v.accepted;
-    held = All-filter (λ h. not (eqb h.expert e)) (λ h. IsHeld s.settings.known s.context s.accepted h.question) s.held v.held;
-    experts = distinct_experts-given_back e s.held v.experts;
+    held = All-filter (λ h. not (eqb h.expert e)) (λ h. MayBeHeld s.settings.known s.context s.accepted h.question) s.held v.held;
+    experts = have_distinct_experts-given_back e s.held v.experts;
   }
 
   ask_valid : (e : ℕ) (q : Rule) → is_expert e ≡ true → Among (open_in s) q
       → IsValid (record s { held = given_back e s.held ++ record { expert = e; question = q } ∷ [] })
   ask_valid e q i in_open =
-      let P : SetHold → Type 0 = λ h. IsHeld s.settings.known s.context s.accepted h.question in
+      let P : SetHold → Type 0 = λ h. MayBeHeld s.settings.known s.context s.accepted h.question in
       let new : SetHold = record { expert = e; question = q } in
       record {
         known = v.known;
         accepted = v.accepted;
         held = All-append P (given_back e s.held) (new ∷ []) (release_valid e).held
             (All-cons P new [] (draw_gives_held s.settings.known s.context s.accepted q in_open) (All-nil P));
-        experts = distinct_experts-push (given_back e s.held) new i (none_held e s.held)
-            (distinct_experts-given_back e s.held v.experts);
+        experts = have_distinct_experts-push (given_back e s.held) new i (none_held e s.held)
+            (have_distinct_experts-given_back e s.held v.experts);
       }
 
   accept_valid : (e : ℕ) (q : Rule) → held_by e s.held ≡ Some q → list_any (λ r. refutes r q) s.context.rows ≡ false
@@ -156,10 +156,10 @@ module _ (s : State) (v : IsValid s) where
         known = v.known;
         accepted = confirm_keeps_accepted S s.context s.accepted v.accepted q held
             (unrefuted_holds s.context q held.conclusion_wide unrefuted) new;
-        held = All-weaker (λ h. IsHeld S s.context s.accepted h.question) (λ h. IsHeld S s.context (s.accepted ++ q ∷ []) h.question)
+        held = All-weaker (λ h. MayBeHeld S s.context s.accepted h.question) (λ h. MayBeHeld S s.context (s.accepted ++ q ∷ []) h.question)
             (λ h other. confirm_keeps_held S s.context s.accepted v.accepted q h.question other) (given_back e s.held)
             (release_valid e).held;
-        experts = distinct_experts-given_back e s.held v.experts;
+        experts = have_distinct_experts-given_back e s.held v.experts;
       }
 
   record_valid : (e : ℕ) (name : RowName) (r : Set) → respects_all (rules_of s) r ≡ true → IsValid (release e (record_row name r s))
@@ -170,10 +170,10 @@ module _ (s : State) (v : IsValid s) where
         known = list_all-append (respects_all S) s.context.rows (r ∷ [])
             ∙ and_from (rows_respect S s.context) (respects_all S r && true) v.known (and_from (respects_all S r) true parts.0 refl);
         accepted = row_keeps_accepted S s.context s.accepted v.accepted r parts.1;
-        held = All-weaker (λ h. IsHeld S s.context s.accepted h.question) (λ h. IsHeld S (with_row s.context r) s.accepted h.question)
+        held = All-weaker (λ h. MayBeHeld S s.context s.accepted h.question) (λ h. MayBeHeld S (with_row s.context r) s.accepted h.question)
             (λ h other. row_keeps_held S s.context s.accepted v.accepted r parts.1 h.question other) (given_back e s.held)
             (release_valid e).held;
-        experts = distinct_experts-given_back e s.held v.experts;
+        experts = have_distinct_experts-given_back e s.held v.experts;
       }
 
   pub next_valid : (event : SetEvent) → is_expert (expert_of event) ≡ true → IsValid (next s event)
@@ -186,7 +186,7 @@ pub opening_valid : (K : Context) (names : List RowName) (settings : Settings) �
 opening_valid K names settings h = record {
   known = h;
   accepted = record { members = refl; smaller = λ i in_none. absurd (false≢true (in_none (λ _. false) refl)); distinct = refl };
-  held = All-nil (λ (h : SetHold). IsHeld settings.known K [] h.question);
+  held = All-nil (λ (h : SetHold). MayBeHeld settings.known K [] h.question);
   experts = refl;
 }
 
@@ -201,7 +201,7 @@ run_valid s (event ∷ events) i v =
 -- ---- with as many holders as experts
 
 -- experts up to n hold at most n questions
-few_holds : (n : ℕ) (hs : List SetHold) → distinct_experts hs ≡ true → list_all (λ h. leb h.expert n) hs ≡ true → length hs ≤ n
+few_holds : (n : ℕ) (hs : List SetHold) → have_distinct_experts hs ≡ true → list_all (λ h. leb h.expert n) hs ≡ true → length hs ≤ n
 few_holds zero [] d a = omega arith
 few_holds zero (h ∷ hs) d a =
     let first = and_parts (leb 1 h.expert) (leb h.expert MAX_EXPERTS) (distinct_parts h hs d).0 in
@@ -209,7 +209,7 @@ few_holds zero (h ∷ hs) d a =
     let most : h.expert ≤ 0 = leb-true h.expert 0 (and_parts (leb h.expert 0) (list_all (λ h. leb h.expert 0) hs) a).0 in
     absurd (omega arith)
 few_holds (suc n) hs d a =
-    let rest = few_holds n (given_back (suc n) hs) (distinct_experts-given_back (suc n) hs d) (smaller hs a) in
+    let rest = few_holds n (given_back (suc n) hs) (have_distinct_experts-given_back (suc n) hs d) (smaller hs a) in
     omega (arith, rest, one_less (suc n) hs d)
   where
     smaller : (hs : List SetHold) → list_all (λ h. leb h.expert (suc n)) hs ≡ true
@@ -228,12 +228,12 @@ few_holds (suc n) hs d a =
             let other : h.expert ≢ suc n = eqb-false h.expert (suc n) e in
             and_from (leb h.expert n) (list_all (λ h. leb h.expert n) (given_back (suc n) hs)) (le-leb h.expert n (omega arith)) rest
 
-    one_less : (e : ℕ) (hs : List SetHold) → distinct_experts hs ≡ true → length hs ≤ suc (length (given_back e hs))
+    one_less : (e : ℕ) (hs : List SetHold) → have_distinct_experts hs ≡ true → length hs ≤ suc (length (given_back e hs))
     one_less e [] d = omega arith
     one_less e (h ∷ hs) d = go (eqb h.expert e) refl (distinct_parts h hs d) (one_less e hs)
       where
-        go : (b : Bool) → eqb h.expert e ≡ b → (is_expert h.expert ≡ true) × (is_holding hs h.expert ≡ false) × (distinct_experts hs ≡ true)
-            → (distinct_experts hs ≡ true → length hs ≤ suc (length (given_back e hs)))
+        go : (b : Bool) → eqb h.expert e ≡ b → (is_expert h.expert ≡ true) × (is_holding hs h.expert ≡ false) × (have_distinct_experts hs ≡ true)
+            → (have_distinct_experts hs ≡ true → length hs ≤ suc (length (given_back e hs)))
             → suc (length hs) ≤ suc (length (cond (not b) (h ∷ given_back e hs) (given_back e hs)))
         go true t ds rest =
             let alone : given_back e hs ≡ hs = subst (λ f. given_back f hs ≡ hs) (eqb-true h.expert e t)
@@ -248,7 +248,7 @@ few_holds (suc n) hs d a =
                 and_from (not (eqb g.expert h.expert)) (list_all (λ x. not (eqb x.expert h.expert)) hs) (ap not ns.0) (nobody hs ns.1)
         go false f ds rest = omega (arith, rest ds.2)
 
-experts_small : (hs : List SetHold) → distinct_experts hs ≡ true → list_all (λ h. leb h.expert MAX_EXPERTS) hs ≡ true
+experts_small : (hs : List SetHold) → have_distinct_experts hs ≡ true → list_all (λ h. leb h.expert MAX_EXPERTS) hs ≡ true
 experts_small [] d = refl
 experts_small (h ∷ hs) d =
     let ds = distinct_parts h hs d in
@@ -263,11 +263,11 @@ holders_of-le P (h ∷ hs) = elim (same h.question.premise P) as (λ b. cond b 1
 ]
 
 -- without e's own hold, fewer experts hold a question than there are
-pub others_fewer : (e : ℕ) (q : Rule) (hs : List SetHold) → is_expert e ≡ true → distinct_experts hs ≡ true
+pub others_fewer : (e : ℕ) (q : Rule) (hs : List SetHold) → is_expert e ≡ true → have_distinct_experts hs ≡ true
     → length (given_back e hs) < MAX_EXPERTS
 others_fewer e q hs i d =
     let mine : SetHold = record { expert = e; question = q } in
-    let all_distinct = distinct_from mine (given_back e hs) i (none_held e hs) (distinct_experts-given_back e hs d) in
+    let all_distinct = distinct_from mine (given_back e hs) i (none_held e hs) (have_distinct_experts-given_back e hs d) in
     few_holds MAX_EXPERTS (mine ∷ given_back e hs) all_distinct (experts_small (mine ∷ given_back e hs) all_distinct)
 
 pub never_all_held : (s : State) → IsValid s → s.settings.holders ≡ MAX_EXPERTS → (e : ℕ) → is_expert e ≡ true

@@ -38,7 +38,7 @@ use Rattle.replay_command.specs.Replayed.{replay_read, exploration_output, MayRe
 use Rattle.explore_command.specs.Starts.{ExploreStart, explore_read, IsExploreStop}
 use Rattle.explore_command.specs.Explored.{explored_ending, MayExplore}
 use Rattle.serve_command.specs.Openings.{opening_by}
-use Rattle.serve_command.specs.Served.{serving_record, MayServe, IsServeStop, GaveAllBack}
+use Rattle.serve_command.specs.Served.{exploration_of_opening, MayServe, IsServeStop, GaveAllBack}
 use Rattle.serve_command.proofs.AcceptedLemmas.{TookAndGave-none}
 use Rattle.fca_run.specs.Causes.{command_file_at_fault}
 use Rattle.fca_run.specs.Outputs.{command_output, survey_output}
@@ -152,7 +152,7 @@ module _ {E : Type 0} (end_sides : Sides E) where
       let command : Command = Serve file known experts holders listen in
       let is = serve.2.is in
       subst (MayEndWith command) (sym is.ending) (questions-end command
-      (last_open (serving_record (opening_by experts holders serve.0) is.history)) refl)
+      (last_open (exploration_of_opening (opening_by experts holders serve.0) is.history)) refl)
 
   serve-back : (reading : Reading Start) (experts holders : ℕ) (old new : Option (Ends E)) (output : Result Output Stop)
       → IfOk output (MayServe end_sides.left end_sides.held end_sides.reads end_sides.read_faults end_sides.write_faults reading experts holders old new)

@@ -21,9 +21,9 @@ use Rattle.command_io.proofs.ReadingLemmas.{read_after}
 use Rattle.replay_command.specs.Replayed.{MayReplay}
 use Rattle.replay_command.proofs.FedBackLemmas.{opened-respecting, fed_back}
 use Rattle.explore_command.specs.Starts.{ExploreStart}
-use Rattle.explore_command.specs.Explored.{dropped_in, exploring_record, MayExplore}
+use Rattle.explore_command.specs.Explored.{dropped_in, exploration_of_start, MayExplore}
 use Rattle.serve_command.specs.Openings.{opening_by}
-use Rattle.serve_command.specs.Served.{serving_record, ended_words, MayServe}
+use Rattle.serve_command.specs.Served.{exploration_of_opening, ended_words, MayServe}
 use Rattle.fca_run.specs.Courses.{known_basis_lines, TellsExploration}
 use Rattle.fca_run.specs.Calls.{Sides}
 
@@ -63,8 +63,8 @@ pub explore-tells : (reading : Reading ExploreStart) (output : Output) → MayEx
 explore-tells reading output explored =
     let p = explored.start in
     let is = explored.is in
-    tells (then reading (λ q. Read (opening_of q.table (length q.expert_tables) q.settings))) (exploring_record p is.history)
-    (conflicts_text p.table.attributes (rules_of (last_state (exploring_record p is.history))) (dropped_in is.history 1 p.expert_tables))
+    tells (then reading (λ q. Read (opening_of q.table (length q.expert_tables) q.settings))) (exploration_of_start p is.history)
+    (conflicts_text p.table.attributes (rules_of (last_state (exploration_of_start p is.history))) (dropped_in is.history 1 p.expert_tables))
     output.text
     (read_after reading p (λ q. Read (opening_of q.table (length q.expert_tables) q.settings))
     (opening_of p.table (length p.expert_tables) p.settings) explored.read refl) is.whole is.spells is.course
@@ -88,6 +88,6 @@ module _ {E : Type 0} (end_sides : Sides E) where
   serve-tells reading experts holders old new output serve =
       let o : Opening = opening_by experts holders serve.0 in
       let is = serve.2.is in
-      tells (then reading (λ start. Read (opening_by experts holders start))) (serving_record o is.history)
+      tells (then reading (λ start. Read (opening_by experts holders start))) (exploration_of_opening o is.history)
       (sessions_text (map ended_words is.ended)) output.text
       (read_after reading serve.0 (λ start. Read (opening_by experts holders start)) o serve.1 refl) is.text is.spells is.course

@@ -5,7 +5,7 @@ use Rattle.fca_command.specs.declared.command.Command.{Command}
 use Rattle.fca_command.specs.declared.command.Command.TheVariants.{Concepts, Lattice, Basis}
 use Rattle.command_io.specs.Readings.{Reading, then, MayRead}
 use Rattle.command_io.specs.Readings.Reading.{Read}
-use Rattle.command_io.specs.Narrow.{untitled_reading}
+use Rattle.command_io.specs.Untitled.{untitled_reading}
 use Rattle.command_io.specs.Endings.{Output, finished}
 use Rattle.command_io.proofs.ReadingLemmas.{read_untitled}
 use Rattle.fca_run.specs.Reports.{reads_narrow, table_report, table_concepts_text, table_lattice_text, table_basis_text}

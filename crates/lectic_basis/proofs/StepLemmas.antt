@@ -12,7 +12,7 @@ use Rattle.lectic_basis.specs.Watches.{Watched}
 use Rattle.lectic_basis.specs.Walks.{IsBelow, IsTrying, HasFound, IsPart}
 use Rattle.lectic_basis.specs.Steps.{IsStep, IsBegun, IsFurther, HasTried, AreLeft, steps_left}
 use Rattle.lectic_basis.specs.declared.tree.Step.{Step}
-use Rattle.fca_model.specs.Room.{steps_bound}
+use Rattle.fca_model.specs.StepBounds.{steps_bound}
 use Rattle.fca_model.proofs.RoomLemmas.{room_less, room_below}
 use Rattle.lectic_basis.proofs.ForcedLemmas.{forced_more}
 use Rattle.lectic_basis.proofs.WalkLemmas.{trying, below_start, found_then, found_longer, none_found, last_found, tried_lacks}

@@ -8,7 +8,7 @@ use Rattle.extent_blocks.specs.Blocks.{IsExtent}
 use Rattle.lectic_basis.specs.Forced.{AreForced, NoneToTry}
 use Rattle.lectic_basis.specs.Watches.{Watched}
 use Rattle.lectic_basis.specs.Walks.{IsBelow, HasFound, IsPart}
-use Rattle.fca_model.specs.Room.{steps_bound}
+use Rattle.fca_model.specs.StepBounds.{steps_bound}
 use Rattle.lectic_basis.specs.declared.tree.Step.{Step}
 
 -- the step was begun when `first` was found, and now F is; all from its end on were visited

@@ -15,12 +15,12 @@ use Rattle.fca_model.specs.Context.{Context, closure, with_row}
 use Rattle.fca_model.specs.Implications.{Rule, rule, premises, holds, respects, respects_all}
 use Rattle.fca_model.specs.Pseudo.{basis_known}
 use Rattle.fca_model.specs.Questions.{has_premise, waiting, smallest, open_questions}
-use Rattle.fca_model.specs.Invariant.{is_member, Among, SmallerAccepted, IsAccepted, distinct_premises}
+use Rattle.fca_model.specs.Invariant.{is_member, Among, SmallerAccepted, IsAccepted, have_distinct_premises}
 use Rattle.fca_model.specs.Levels.{level_of, HasBelow}
 use Rattle.fca_model.proofs.ListLemmas.{implies_at, list_all-mono, list_all-filter, filter_all, filter_none_all, filter-map}
 use Rattle.fca_model.proofs.SetLemmas.{same_refl, same-true, size_le, within-meet}
 use Rattle.fca_model.proofs.PseudoLemmas.{basis_all, basis_at, pseudo_parts}
-use Rattle.fca_model.proofs.InvariantLemmas.{member_from, member_parts, distinct_premises-push}
+use Rattle.fca_model.proofs.InvariantLemmas.{member_from, member_parts, have_distinct_premises-push}
 use Rattle.fca_model.proofs.SortedLemmas.{increasing-filter}
 use Rattle.fca_model.proofs.DoneLemmas.{basis_increasing}
 use Rattle.fca_model.proofs.QuestionLemmas.{open_none}
@@ -159,7 +159,7 @@ module _ (S : List Rule) (K : Context) (k : ℕ) (acc : List Rule) where
   -- ---- what is accepted
 
   -- the accepted implications are members, each with all smaller ones
-  pub accepted_from_part : HasPartUpTo S K k acc → distinct_premises acc ≡ true → IsAccepted S K acc
+  pub accepted_from_part : HasPartUpTo S K k acc → have_distinct_premises acc ≡ true → IsAccepted S K acc
   accepted_from_part h distinct = record {
     distinct = distinct;
     members = h.sound (is_member S K) (basis_all S K (is_member S K) (λ P e p. member_from S K P (closure K P) e p refl));
@@ -283,7 +283,7 @@ module _ {S : List Rule} {K : Context} {k : ℕ} {acc questions : List Rule} (ke
 
 -- a level that was found
 pub opened_kept : {S : List Rule} {K : Context} {k : ℕ} {acc questions : List Rule} → list_all (holds K) S ≡ true
-    → distinct_premises acc ≡ true → IsNextLevel S K acc k questions → IsKeptQueue S K k acc questions
+    → have_distinct_premises acc ≡ true → IsNextLevel S K acc k questions → IsKeptQueue S K k acc questions
 opened_kept {S = S} {K = K} {k = k} {acc = acc} {questions = questions} hold distinct next = record {
   hold = hold;
   distinct = distinct;
@@ -303,8 +303,8 @@ module _ {S : List Rule} {K : Context} {k : ℕ} {acc questions : List Rule} (ke
   pub accepted_conclusion : length q.conclusion ≡ K.width
   accepted_conclusion = conclusion_wide S K k acc questions kept.queue q among
 
-  pub accepted_distinct : distinct_premises (acc ++ q ∷ []) ≡ true
-  accepted_distinct = distinct_premises-push acc q kept.distinct (question_new S K k acc questions kept.queue q among)
+  pub accepted_distinct : have_distinct_premises (acc ++ q ∷ []) ≡ true
+  accepted_distinct = have_distinct_premises-push acc q kept.distinct (question_new S K k acc questions kept.queue q among)
 
   rest_queue : IsQueue S K k (acc ++ q ∷ []) (remove questions n)
   rest_queue = accept_keeps_queue S K k acc questions kept.queue q among (remove questions n)

@@ -7,7 +7,7 @@ use Rattle.fca_model.specs.Context.{Context, closure}
 use Rattle.fca_model.specs.Implications.{Rule, rule, holds}
 use Rattle.fca_model.specs.Pseudo.{basis_known}
 use Rattle.fca_model.specs.Questions.{has_premise}
-use Rattle.fca_model.specs.Invariant.{distinct_premises}
+use Rattle.fca_model.specs.Invariant.{have_distinct_premises}
 use Rattle.fca_model.specs.Levels.{level_of}
 
 -- ---- what callers see
@@ -35,7 +35,7 @@ pub record IsQueue (S : List Rule) (K : Context) (k : ℕ) (acc questions : List
 -- one with no question
 pub record IsKeptQueue (S : List Rule) (K : Context) (k : ℕ) (acc questions : List Rule) : Type 0 where
   pub hold : list_all (holds K) S ≡ true
-  pub distinct : distinct_premises acc ≡ true
+  pub distinct : have_distinct_premises acc ≡ true
   pub queue : IsQueue S K k acc questions
   pub done : questions ≡ [] → k ≡ K.width + 1
 

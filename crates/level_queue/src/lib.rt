@@ -14,7 +14,7 @@ ghost use Rattle.fca_model.specs.Sets.{size};
 ghost use Rattle.fca_model.specs.Context.{with_row};
 ghost use Rattle.fca_model.specs.Implications.{Rule, respects_all, holds};
 ghost use Rattle.fca_model.specs.Questions.{open_questions, has_premise};
-ghost use Rattle.fca_model.specs.Invariant.{IsAccepted, IsHeld};
+ghost use Rattle.fca_model.specs.Invariant.{IsAccepted, MayBeHeld};
 
 use attr_bits::Attrs;
 use derivation::Rows;
@@ -156,7 +156,7 @@ impl LevelQueue {
     pub fn place_of(&self, question: &Question) -> Option<usize>
         ensures in_range { IfSome result (λ i. i < length (open_questions self.now.known self.now.context self.now.accepted)) }
         ensures found { IfSome result (λ i. slice_get (open_questions self.now.known self.now.context self.now.accepted) i ≡ Some question.now) }
-        ensures held { IsHeld self.now.known self.now.context self.now.accepted question.now → holds self.now.context question.now ≡ true
+        ensures held { MayBeHeld self.now.known self.now.context self.now.accepted question.now → holds self.now.context question.now ≡ true
             → has_premise self.now.accepted question.now.premise ≡ false → IsSome result }
     {
         self.level.questions.place_of(question)

@@ -28,7 +28,7 @@ use Rattle.fca_model.proofs.LevelLemmas.{respects_found, level_is, level_all}
 use Rattle.fca_model.proofs.SortedLemmas.{in_filter, in_all_sets, increasing-filter, split_filter}
 use Rattle.implication_closure.specs.Closing.{IsClosure, HaveWidth, has_width}
 use Rattle.lectic_basis.specs.Trees.{before, up_to}
-use Rattle.next_level.specs.NextLevel.{is_open_within, opens_at, open_where, everything, IsOpen, IsLeastUnder, IsLeastLevel, IsNextLevel}
+use Rattle.next_level.specs.NextLevel.{is_open_within, is_open_of_size, open_where, everything, IsOpen, IsLeastUnder, IsLeastLevel, IsNextLevel}
 use Rattle.next_level.specs.Among.{AllAmong, IsAhead, IsRest, may_be_open}
 use Rattle.next_level.specs.LevelWalks.{IsLeastSize}
 use Rattle.lectic_basis.proofs.PlaceLemmas as places
@@ -290,10 +290,10 @@ module _ (J : List Rule) (K : Context) (c : ℕ) (L : List Rule) (l : L ≡ open
           subst (λ (Y : Set). b ≤ size Y) (sym one) (leb-true b (size (w.0).premise) w.2)
     ]
 
-    of_least : filter (λ i. eqb (size i.premise) b) L ≡ map (λ P. rule P (closure K P)) (filter (opens_at J K b) (all_sets K.width))
+    of_least : filter (λ i. eqb (size i.premise) b) L ≡ map (λ P. rule P (closure K P)) (filter (is_open_of_size J K b) (all_sets K.width))
     unfolding open_where
     of_least =
-        ap (filter (λ i. eqb (size i.premise) b)) l ∙ filter_listed K everything (is_open_within J K c) (opens_at J K b) (λ X. eqb (size X) b)
+        ap (filter (λ i. eqb (size i.premise) b)) l ∙ filter_listed K everything (is_open_within J K c) (is_open_of_size J K b) (λ X. eqb (size X) b)
         (λ X e.
         let core : Bool = respects_all J X && not (is_closed K X) in
         bool_iff ((core && leb (size X) c) && eqb (size X) b) (core && eqb (size X) b)
@@ -305,7 +305,7 @@ module _ (J : List Rule) (K : Context) (c : ℕ) (L : List Rule) (l : L ≡ open
         let most = size_le X in
         let le : size X ≤ c = elim at_most [ inl le ↦ omega (arith, le, here) | inr past ↦ absurd (omega (arith, past, here, most, e)) ] in
         and_from (core && leb (size X) c) (eqb (size X) b) (and_from core (leb (size X) c) parts.0 (le-leb (size X) c le)) parts.1))
-        ∙ ap (map (λ P. rule P (closure K P))) (all_pass (filter (opens_at J K b) (all_sets K.width)))
+        ∙ ap (map (λ P. rule P (closure K P))) (all_pass (filter (is_open_of_size J K b) (all_sets K.width)))
 
     one_open : list_any (λ i. eqb (size i.premise) b) L ≡ true → (X : Set) × IsOpen J K everything X × (size X ≡ b)
     unfolding open_where
@@ -454,9 +454,9 @@ module _ (S : List Rule) (K : Context) (k : ℕ) (found J : List Rule) (is : J �
   next_members : L ≡ level_of S K b
   next_members =
       l.listed ∙ ap (map (λ P. rule P (closure K P)))
-      (filter_agree_on (λ X. eqb (length X) K.width) (opens_at J K b) (λ P. pseudo_known S K P && eqb (size P) b) (λ X e.
+      (filter_agree_on (λ X. eqb (length X) K.width) (is_open_of_size J K b) (λ P. pseudo_known S K P && eqb (size P) b) (λ X e.
       let wide : length X ≡ K.width = eqb-true (length X) K.width e in
-      bool_iff (opens_at J K b X) (pseudo_known S K X && eqb (size X) b)
+      bool_iff (is_open_of_size J K b X) (pseudo_known S K X && eqb (size X) b)
       (λ h.
       let parts = and_parts (respects_all J X && not (is_closed K X)) (eqb (size X) b) h in
       let both = and_parts (respects_all J X) (not (is_closed K X)) parts.0 in
@@ -478,12 +478,12 @@ module _ (S : List Rule) (K : Context) (k : ℕ) (found J : List Rule) (is : J �
     | inl none ↦ let past : b ≡ suc K.width = ends none in omega (arith, past)
     | inr w ↦
         let X : Set = w.0 in
-        let one : opens_at J K b X ≡ true = and_from (respects_all J X && not (is_closed K X)) (eqb (size X) b)
+        let one : is_open_of_size J K b X ≡ true = and_from (respects_all J X && not (is_closed K X)) (eqb (size X) b)
         (and_from (respects_all J X) (not (is_closed K X)) w.1.respecting (ap not w.1.not_closed)) (eq-eqb (size X) b w.2) in
-        let there : list_any (same X) (filter (opens_at J K b) (all_sets K.width)) ≡ true =
-        in_filter (opens_at J K b) X (all_sets K.width) (in_all_sets K.width X w.1.wide) one in
-        let empty : filter (opens_at J K b) (all_sets K.width) ≡ [] =
-        map_none (λ P. rule P (closure K P)) (filter (opens_at J K b) (all_sets K.width)) (sym l.listed ∙ e) in
+        let there : list_any (same X) (filter (is_open_of_size J K b) (all_sets K.width)) ≡ true =
+        in_filter (is_open_of_size J K b) X (all_sets K.width) (in_all_sets K.width X w.1.wide) one in
+        let empty : filter (is_open_of_size J K b) (all_sets K.width) ≡ [] =
+        map_none (λ P. rule P (closure K P)) (filter (is_open_of_size J K b) (all_sets K.width)) (sym l.listed ∙ e) in
         absurd (false≢true (sym (ap (list_any (same X)) empty) ∙ there))
   ]
 

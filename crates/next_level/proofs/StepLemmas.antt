@@ -4,7 +4,7 @@ use Rattle.std.proofs.lemmas.List.{reverse-append}
 use Rattle.std.proofs.lemmas.List.Sums.{sum_by_push}
 use Rattle.fca_model.specs.Context.{Context}
 use Rattle.fca_model.specs.Implications.{Rule}
-use Rattle.fca_model.specs.Room.{steps_bound}
+use Rattle.fca_model.specs.StepBounds.{steps_bound}
 use Rattle.fca_model.proofs.RoomLemmas.{room_below}
 use Rattle.lectic_basis.specs.Watches.{Watched}
 use Rattle.next_level.specs.LevelWalks.{HasListed}

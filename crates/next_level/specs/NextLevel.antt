@@ -45,11 +45,11 @@ pub record IsOpen (J : List Rule) (K : Context) (p : Set → Bool) (X : Set) : T
   pub passes : p X ≡ true
 
 -- X respects J, is not closed, and has b members
-abbrev pub opens_at : List Rule → Context → ℕ → Set → Bool
-opens_at J K b X = (respects_all J X && not (is_closed K X)) && (size X == b)
+abbrev pub is_open_of_size : List Rule → Context → ℕ → Set → Bool
+is_open_of_size J K b X = (respects_all J X && not (is_closed K X)) && (size X == b)
 
 -- no open set has fewer than b members, L are those of b members, and there is one, or nothing is listed
 pub record IsLeastLevel (J : List Rule) (K : Context) (b : ℕ) (L : List Rule) : Type 0 where
   pub least : (X : Set) → IsOpen J K everything X → b ≤ size X
-  pub listed : L ≡ map (λ P. rule P (closure K P)) (filter (opens_at J K b) (all_sets K.width))
+  pub listed : L ≡ map (λ P. rule P (closure K P)) (filter (is_open_of_size J K b) (all_sets K.width))
   pub witness : (L ≡ []) ⊎ ((X : Set) × IsOpen J K everything X × (size X ≡ b))

@@ -5,7 +5,7 @@ use Rattle.fca_model.specs.Sets.{within, agree_before}
 use Rattle.fca_model.specs.Context.{Context}
 use Rattle.fca_model.specs.Implications.{Rule}
 use Rattle.extent_blocks.specs.Blocks.{IsExtent}
-use Rattle.fca_model.specs.Room.{steps_bound}
+use Rattle.fca_model.specs.StepBounds.{steps_bound}
 use Rattle.lectic_basis.specs.Watches.{Watched}
 use Rattle.next_level.specs.Among.{AreAmong}
 use Rattle.next_level.specs.LevelWalks.{IsInside, IsBelow, HasListed}

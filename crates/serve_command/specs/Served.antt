@@ -38,8 +38,8 @@ ended_words Spent = SPENT.now
 ended_words Memory = NO_MEMORY.now
 
 -- the exploration that was opened so and has this history
-abbrev pub serving_record : Opening → List SetEntry → Exploration
-serving_record o H = record { opening = o; journal = H }
+abbrev pub exploration_of_opening : Opening → List SetEntry → Exploration
+exploration_of_opening o H = record { opening = o; journal = H }
 
 -- its text, and how the sessions ended
 abbrev pub served_text : Opening → List SetEntry → List Ended → Text
@@ -55,10 +55,10 @@ module _ {E : Type 0} (left held : E → Option Text) (reads : E → Option ℕ)
     pub ended : List Ended
     pub text : written ≡ served_text o history ended
     pub spells : Spells o.table o.settings history written
-    pub course : IsExplored (serving_record o history)
+    pub course : IsExplored (exploration_of_opening o history)
     pub talks : EachTalks left held reads read_faults write_faults o.table MAX_LINES history 1 before after ended
     pub others : (e : ℕ) → (e ≡ 0) ⊎ (length before < e) → own history e ≡ []
-    pub ending : end ≡ ending_of (last_open (serving_record o history))
+    pub ending : end ≡ ending_of (last_open (exploration_of_opening o history))
 
   -- the ends are as they were, or their experts have talked over them
   abbrev pub MayHaveTalked : List E → List E → Type 0

@@ -1,6 +1,6 @@
 pub mod Blanks
 pub mod Lines
-pub mod Left
+pub mod RemainingLines
 pub mod Words
 pub mod Numerals
 pub mod Marks

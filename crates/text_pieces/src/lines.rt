@@ -4,7 +4,7 @@ ghost use Rattle.std.specs.Prelude.{◌≡◌, ◌+◌, ◌<◌, ◌^◌, ◌∷
 ghost use Rattle.std.specs.List.{before_first, after_first};
 ghost use Rattle.std.specs.Str.Lines.{strip_carriage_return};
 ghost use Rattle.text_pieces.specs.Lines.{lines, is_line_feed};
-ghost use Rattle.text_pieces.specs.Left.{Left, after_blank, after_blanks};
+ghost use Rattle.text_pieces.specs.RemainingLines.{RemainingLines, after_blank, after_blanks};
 
 use crate::blanks::is_blank_line;
 use std::marker::Model;
@@ -19,9 +19,9 @@ pub struct Lines<'a> {
 impl<'a> Model for Lines<'a> {
     ghost use Rattle.std.specs.Prelude.{◌+◌, ◌≤◌, ◌^◌, length};
     ghost use Rattle.text_pieces.specs.Lines.{lines};
-    ghost use Rattle.text_pieces.specs.Left.{Left};
+    ghost use Rattle.text_pieces.specs.RemainingLines.{RemainingLines};
 
-    ghost Value = { Left };
+    ghost Value = { RemainingLines };
 
     ghost view = { λ l. record { number = l.number; lines = lines l.rest.now } };
 

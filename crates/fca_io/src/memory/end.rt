@@ -4,7 +4,7 @@ ghost use Rattle.std.specs.Prelude.{◌≡◌, ◌≤◌, ◌<◌, ◌-◌, ◌�
 ghost use Rattle.std.specs.Io.{ReadsAtMost};
 ghost use Rattle.std.specs.Io.KnownBytes.{ReadConsumes, WriteAppends, Keeps};
 ghost use Rattle.fca_io.specs.Faults.{Rose, counts_whole};
-ghost use Rattle.fca_io.specs.Forms.{plan_of, fails_next, after_call, with_fault};
+ghost use Rattle.fca_io.specs.Forms.{failure_plan_of, fails_next, after_call, with_fault};
 
 use super::sink::MemorySink;
 use super::source::MemorySource;
@@ -41,8 +41,8 @@ impl MemoryEnd {
         most: usize,
     ) -> Result<MemoryEnd, Memory>
         requires { 0 < most }
-        ensures incoming { IfOk result (λ end. end.incoming ≡ record { bytes = bytes.now; most = most; plan = plan_of read_fails.now }) }
-        ensures outgoing { IfOk result (λ end. end.outgoing ≡ record { bytes = []; most = most; room = room; whole_writes = 0; plan = plan_of write_fails.now }) }
+        ensures incoming { IfOk result (λ end. end.incoming ≡ record { bytes = bytes.now; most = most; plan = failure_plan_of read_fails.now }) }
+        ensures outgoing { IfOk result (λ end. end.outgoing ≡ record { bytes = []; most = most; room = room; whole_writes = 0; plan = failure_plan_of write_fails.now }) }
     {
         Ok(MemoryEnd {
             source: MemorySource::new(alloc, bytes, read_fails, most)?,

@@ -4,7 +4,7 @@ ghost use Rattle.std.specs.Prelude.{◌≡◌, ◌≤◌, ◌↔◌, ◌⊎◌, 
 ghost use Rattle.std.specs.Prelude.{IsErr, IsTrue};
 ghost use Rattle.std.specs.Option.{option_map};
 ghost use Rattle.fca_io.specs.Faults.{Rose};
-ghost use Rattle.fca_io.specs.Forms.{plan_of, fails_next, after_call, with_fault};
+ghost use Rattle.fca_io.specs.Forms.{failure_plan_of, fails_next, after_call, with_fault};
 ghost use Rattle.fca_io.specs.Links.{GivesFirst, with_given, IsWithinRoom};
 
 use super::end::MemoryEnd;
@@ -50,7 +50,7 @@ impl MemoryLink {
         ensures address { IfOk result (λ link. link.address ≡ address.now) }
         ensures closed { IfOk result (λ link. link.listens ≡ false) }
         ensures ends { IfOk result (λ link. link.ends ≡ record { to_come = ends.items; given = []; room = vec_len ends }) }
-        ensures calls { IfOk result (λ link. link.plan ≡ plan_of fails.now) }
+        ensures calls { IfOk result (λ link. link.plan ≡ failure_plan_of fails.now) }
     {
         let room = ends.len();
         Ok(MemoryLink {

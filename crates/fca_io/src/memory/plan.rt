@@ -2,7 +2,7 @@
 
 ghost use Rattle.std.specs.Prelude.{◌≡◌, ◌≤◌, IfOk};
 ghost use Rattle.fca_io.specs.Faults.{one_more};
-ghost use Rattle.fca_io.specs.Forms.{plan_of, fails_next, after_call, with_fault};
+ghost use Rattle.fca_io.specs.Forms.{failure_plan_of, fails_next, after_call, with_fault};
 
 use std::alloc::{AllocError, Global};
 use std::marker::Model;
@@ -20,9 +20,9 @@ pub struct FailingCalls {
 
 impl Model for FailingCalls {
     ghost use Rattle.std.specs.Prelude.{◌<◌, ◌^◌};
-    ghost use Rattle.fca_io.specs.Forms.{Plan};
+    ghost use Rattle.fca_io.specs.Forms.{FailurePlan};
 
-    ghost Value = { Plan };
+    ghost Value = { FailurePlan };
 
     ghost view = { λ c. record { fails = c.fails.items; made = c.made; faults = c.faults } };
 
@@ -32,7 +32,7 @@ impl Model for FailingCalls {
 impl FailingCalls {
     /// The plan in which no call was made yet.
     pub fn new(alloc: Global, fails: &[usize]) -> Result<FailingCalls, AllocError>
-        ensures { IfOk result (λ calls. calls ≡ plan_of fails.now) }
+        ensures { IfOk result (λ calls. calls ≡ failure_plan_of fails.now) }
     {
         Ok(FailingCalls {
             fails: Vec::from_slice(alloc, fails)?,

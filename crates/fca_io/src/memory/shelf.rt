@@ -5,7 +5,7 @@ ghost use Rattle.std.specs.Prelude.{OnErr, IsErrOf, IsTrue};
 ghost use Rattle.std.specs.Option.{option_copied, option_map};
 ghost use Rattle.fca_io.specs.Faults.{Rose, one_more};
 ghost use Rattle.fca_io.specs.Shelves.{MayHold, MayExceed, bytes_under};
-ghost use Rattle.fca_io.specs.Forms.{plan_of, fails_next, after_call, with_fault};
+ghost use Rattle.fca_io.specs.Forms.{failure_plan_of, fails_next, after_call, with_fault};
 
 use super::plan::FailingCalls;
 use crate::outside::{Shelf, Taken};
@@ -47,7 +47,7 @@ impl Model for MemoryShelf {
 impl MemoryShelf {
     /// An empty shelf. Its fetches with the numbers `fails`, counted from 1, fail.
     pub fn new(alloc: Global, fails: &[usize]) -> Result<MemoryShelf, Memory>
-        ensures { IfOk result (λ shelf. shelf ≡ record { files = []; plan = plan_of fails.now }) }
+        ensures { IfOk result (λ shelf. shelf ≡ record { files = []; plan = failure_plan_of fails.now }) }
     {
         Ok(MemoryShelf {
             files: Vec::new(alloc),

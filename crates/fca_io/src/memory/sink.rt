@@ -3,7 +3,7 @@
 ghost use Rattle.std.specs.Prelude.{◌≡◌, ◌≤◌, ◌<◌, ◌-◌, ◌↔◌, ◌⊎◌, [], false, length, min, Some, Result, IfOk, IsErr, IsTrue, OnOk, OnErr};
 ghost use Rattle.std.specs.Io.KnownBytes.{WriteAppends, Keeps};
 ghost use Rattle.fca_io.specs.Faults.{Rose, counts_whole};
-ghost use Rattle.fca_io.specs.Forms.{plan_of, fails_next, after_call, with_fault, BoundedSink};
+ghost use Rattle.fca_io.specs.Forms.{failure_plan_of, fails_next, after_call, with_fault, BoundedSink};
 
 use super::plan::{FailingCalls, one_more};
 use crate::outside::{Failed, Sink};
@@ -45,7 +45,7 @@ impl MemorySink {
         most: usize,
     ) -> Result<MemorySink, Memory>
         requires { 0 < most }
-        ensures { IfOk result (λ sink. sink ≡ record { bytes = []; most = most; room = room; whole_writes = 0; plan = plan_of fails.now }) }
+        ensures { IfOk result (λ sink. sink ≡ record { bytes = []; most = most; room = room; whole_writes = 0; plan = failure_plan_of fails.now }) }
     {
         Ok(MemorySink {
             bytes: Vec::with_capacity(alloc, room)?,

@@ -4,7 +4,7 @@ ghost use Rattle.std.specs.Prelude.{◌≡◌, ◌≤◌, ◌<◌, ◌↔◌, le
 ghost use Rattle.std.specs.Io.{ReadsAtMost};
 ghost use Rattle.std.specs.Io.KnownBytes.{ReadConsumes, Keeps};
 ghost use Rattle.fca_io.specs.Faults.{Rose};
-ghost use Rattle.fca_io.specs.Forms.{plan_of, fails_next, after_call};
+ghost use Rattle.fca_io.specs.Forms.{failure_plan_of, fails_next, after_call};
 
 use super::plan::FailingCalls;
 use crate::outside::{Failed, Source};
@@ -85,7 +85,7 @@ impl MemorySource {
         most: usize,
     ) -> Result<MemorySource, Memory>
         requires { 0 < most }
-        ensures { IfOk result (λ source. source ≡ record { bytes = bytes.now; most = most; plan = plan_of fails.now }) }
+        ensures { IfOk result (λ source. source ≡ record { bytes = bytes.now; most = most; plan = failure_plan_of fails.now }) }
     {
         Ok(MemorySource {
             unread: Unread::new(alloc, bytes)?,

@@ -6,7 +6,7 @@ use Rattle.fca_model.specs.Tables.{NamedContext}
 use Rattle.text_pieces.specs.Lines.{lines}
 use Rattle.text_pieces.specs.Telling.{Tells}
 use Rattle.cxt_format.specs.Form.{table_form, without_bom, cxt_form}
-use Rattle.cxt_format.specs.Narrow.{untitled_form}
+use Rattle.cxt_format.specs.Untitled.{untitled_form}
 use Rattle.cxt_format.specs.declared.CxtFault.{CxtFault}
 use Rattle.cxt_format.specs.declared.CxtFault.TheVariants as fault
 use Rattle.cxt_format.proofs.narrow.read_narrow_cxt.Goals as goal

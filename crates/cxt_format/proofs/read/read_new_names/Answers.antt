@@ -1,6 +1,6 @@
 use Rattle.std.proofs.Common.{◌≡◌, ◌⊎◌, ◌∙◌, ◌+◌, ◌++◌, ◌∷◌, ℕ, [], Err, sym, ap, inl, inr}
 use Rattle.std.proofs.lemmas.List.{length_push}
-use Rattle.cxt_format.specs.Words.{attribute_form}
+use Rattle.cxt_format.specs.LineForms.{attribute_form}
 use Rattle.cxt_format.specs.Form.{next, attributes_form}
 use Rattle.cxt_format.specs.declared.CxtFault.TheVariants as fault
 use Rattle.cxt_format.proofs.FormLemmas.{more-Ok, more-Err, Parses-passed}

@@ -1,5 +1,5 @@
 use Rattle.std.proofs.Common.{◌∙◌, sym, ap, ℕ, ◌+◌}
-use Rattle.cxt_format.specs.Words.{name_form}
+use Rattle.cxt_format.specs.LineForms.{name_form}
 use Rattle.cxt_format.specs.Form.{next}
 use Rattle.cxt_format.proofs.FormLemmas.{more-Ok}
 use Rattle.cxt_format.proofs.read.read_objects.Goals as goal

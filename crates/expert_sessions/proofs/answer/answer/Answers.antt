@@ -6,7 +6,7 @@ use Rattle.expert_wire.specs.declared.requests.Request.TheVariants.{Leave as Lea
 use Rattle.expert_wire.specs.Requests.{TakesMemory, request_form}
 use Rattle.expert_gate.proofs.DeskLemmas.{plays-works, Works-nil}
 use Rattle.expert_sessions.specs.Lines.{Asks}
-use Rattle.expert_sessions.specs.Moves.{desk_count_of}
+use Rattle.expert_sessions.specs.Moves.{desk_progress_of}
 use Rattle.expert_sessions.proofs.MoveLemmas.{Enters-nil}
 use Rattle.expert_sessions.proofs.CourseLemmas.{turn-answered, turn-refused}
 use Rattle.expert_sessions.proofs.answer.answer.Goals as goal
@@ -20,8 +20,8 @@ returns-in-Ok-Draw-clause-answered g c =
     let told : request_form c.args.line.now c.args.table.now.context.width ≡ Ok DrawAsked = ap (request_form c.args.line.now) (sym wide)
     ∙ form in
     rw c.said_of.ensures (turn-answered e (request_form c.args.line.now c.args.table.now.context.width) event
-    (desk_count_of (g.D.Desk.state c.args.desk.now))
-    (desk_count_of (g.D.Desk.state c.draw.new.self))
+    (desk_progress_of (g.D.Desk.state c.args.desk.now))
+    (desk_progress_of (g.D.Desk.state c.draw.new.self))
     (subst (λ f. Asks e f event) (sym told) refl) c.draw.ensures.turn.left c.draw.result c.draw.ensures.turn.entry c.draw.ensures.turn.err
     c.draw.ensures.turn.spent)
 
@@ -35,8 +35,8 @@ returns-in-Ok-Confirm-clause-answered g c =
     let told : request_form c.args.line.now c.args.table.now.context.width ≡ Ok ConfirmAsked = ap (request_form c.args.line.now) (sym wide)
     ∙ form in
     rw c.said_of-in-Ok-Confirm.ensures (turn-answered e (request_form c.args.line.now c.args.table.now.context.width) event
-    (desk_count_of (g.D.Desk.state c.args.desk.now))
-    (desk_count_of (g.D.Desk.state c.confirm.new.self))
+    (desk_progress_of (g.D.Desk.state c.args.desk.now))
+    (desk_progress_of (g.D.Desk.state c.confirm.new.self))
     (subst (λ f. Asks e f event) (sym told) refl) c.confirm.ensures.turn.left c.confirm.result c.confirm.ensures.turn.entry
     c.confirm.ensures.turn.err c.confirm.ensures.turn.spent)
 
@@ -50,8 +50,8 @@ returns-in-Ok-Row-clause-answered g c =
     let told : request_form c.args.line.now c.args.table.now.context.width ≡ Ok (RowAsked c.in-Ok-Row.name c.in-Ok-Row.row) =
     ap (request_form c.args.line.now) (sym wide) ∙ form in
     rw c.said_of-in-Ok-Row.ensures (turn-answered e (request_form c.args.line.now c.args.table.now.context.width) event
-    (desk_count_of (g.D.Desk.state c.args.desk.now))
-    (desk_count_of (g.D.Desk.state c.row.new.self))
+    (desk_progress_of (g.D.Desk.state c.args.desk.now))
+    (desk_progress_of (g.D.Desk.state c.row.new.self))
     (subst (λ f. Asks e f event) (sym told) refl) c.row.ensures.turn.left c.row.result c.row.ensures.turn.entry c.row.ensures.turn.err
     c.row.ensures.turn.spent)
 
@@ -64,8 +64,8 @@ returns-in-Ok-Leave-clause-answered g c =
     let told : request_form c.args.line.now c.args.table.now.context.width ≡ Ok LeaveAsked = ap (request_form c.args.line.now) (sym wide)
     ∙ form in
     rw c.said_of-in-Ok-Leave.ensures (turn-answered e (request_form c.args.line.now c.args.table.now.context.width) event
-    (desk_count_of (g.D.Desk.state c.args.desk.now))
-    (desk_count_of (g.D.Desk.state c.leave.new.self))
+    (desk_progress_of (g.D.Desk.state c.args.desk.now))
+    (desk_progress_of (g.D.Desk.state c.leave.new.self))
     (subst (λ f. Asks e f event) (sym told) refl) c.leave.ensures.turn.left c.leave.result c.leave.ensures.turn.entry
     c.leave.ensures.turn.err c.leave.ensures.turn.spent)
 
@@ -76,7 +76,7 @@ returns-in-Err-Memory-clause-answered g c =
       [],
       0,
       (inr (subst (λ n. TakesMemory (request_form c.args.line.now n)) wide taken, refl), refl),
-      Enters-nil (desk_count_of (g.D.Desk.state c.args.desk.now)),
+      Enters-nil (desk_progress_of (g.D.Desk.state c.args.desk.now)),
     )
 
 pub returns-in-Ok-Draw-clause-spent : goal.returns-in-Ok-Draw-clause-spent
@@ -88,7 +88,7 @@ returns-in-Ok-Draw-clause-spent g c =
     let told : request_form c.args.line.now c.args.table.now.context.width ≡ Ok DrawAsked = ap (request_form c.args.line.now) (sym wide)
     ∙ form in
     rw c.said_of.ensures (turn-refused e (request_form c.args.line.now c.args.table.now.context.width) event
-    (desk_count_of (g.D.Desk.state c.args.desk.now)) (desk_count_of (g.D.Desk.state c.draw.new.self))
+    (desk_progress_of (g.D.Desk.state c.args.desk.now)) (desk_progress_of (g.D.Desk.state c.draw.new.self))
     (subst (λ f. Asks e f event) (sym told) refl) c.draw.ensures.turn.left c.draw.result c.draw.ensures.turn.err c.draw.ensures.turn.spent)
 
 pub returns-in-Ok-Draw-clause-desk : goal.returns-in-Ok-Draw-clause-desk
@@ -107,7 +107,7 @@ returns-in-Ok-Confirm-clause-spent g c =
     let told : request_form c.args.line.now c.args.table.now.context.width ≡ Ok ConfirmAsked = ap (request_form c.args.line.now) (sym wide)
     ∙ form in
     rw c.said_of-in-Ok-Confirm.ensures (turn-refused e (request_form c.args.line.now c.args.table.now.context.width) event
-    (desk_count_of (g.D.Desk.state c.args.desk.now)) (desk_count_of (g.D.Desk.state c.confirm.new.self))
+    (desk_progress_of (g.D.Desk.state c.args.desk.now)) (desk_progress_of (g.D.Desk.state c.confirm.new.self))
     (subst (λ f. Asks e f event) (sym told) refl) c.confirm.ensures.turn.left c.confirm.result c.confirm.ensures.turn.err
     c.confirm.ensures.turn.spent)
 
@@ -127,7 +127,7 @@ returns-in-Ok-Row-clause-spent g c =
     let told : request_form c.args.line.now c.args.table.now.context.width ≡ Ok (RowAsked c.in-Ok-Row.name c.in-Ok-Row.row) =
     ap (request_form c.args.line.now) (sym wide) ∙ form in
     rw c.said_of-in-Ok-Row.ensures (turn-refused e (request_form c.args.line.now c.args.table.now.context.width) event
-    (desk_count_of (g.D.Desk.state c.args.desk.now)) (desk_count_of (g.D.Desk.state c.row.new.self))
+    (desk_progress_of (g.D.Desk.state c.args.desk.now)) (desk_progress_of (g.D.Desk.state c.row.new.self))
     (subst (λ f. Asks e f event) (sym told) refl) c.row.ensures.turn.left c.row.result c.row.ensures.turn.err c.row.ensures.turn.spent)
 
 pub returns-in-Ok-Row-clause-desk : goal.returns-in-Ok-Row-clause-desk
@@ -145,7 +145,7 @@ returns-in-Ok-Leave-clause-spent g c =
     let told : request_form c.args.line.now c.args.table.now.context.width ≡ Ok LeaveAsked = ap (request_form c.args.line.now) (sym wide)
     ∙ form in
     rw c.said_of-in-Ok-Leave.ensures (turn-refused e (request_form c.args.line.now c.args.table.now.context.width) event
-    (desk_count_of (g.D.Desk.state c.args.desk.now)) (desk_count_of (g.D.Desk.state c.leave.new.self))
+    (desk_progress_of (g.D.Desk.state c.args.desk.now)) (desk_progress_of (g.D.Desk.state c.leave.new.self))
     (subst (λ f. Asks e f event) (sym told) refl) c.leave.ensures.turn.left c.leave.result c.leave.ensures.turn.err
     c.leave.ensures.turn.spent)
 

@@ -2,7 +2,7 @@ use Rattle.std.proofs.Common.{◌≡◌, true, false}
 use Rattle.std.specs.Prelude.{is_err}
 use Rattle.std.proofs.lemmas.Result.{err_from_is_err_and}
 use Rattle.expert_gate.proofs.DeskLemmas.{Works-nil}
-use Rattle.expert_sessions.specs.Moves.{end_state_of, desk_count_of}
+use Rattle.expert_sessions.specs.Moves.{end_state_of, desk_progress_of}
 use Rattle.expert_sessions.proofs.LineLemmas.{sent_whole, sent_quiet}
 use Rattle.expert_sessions.proofs.CourseLemmas.{unread, unturned, line-served, line-quits, line-unanswered}
 use Rattle.expert_sessions.proofs.OrderLemmas.{answered}
@@ -14,7 +14,7 @@ returns-in_err-at-clause-halted g c =
     rw (p.1, p.2) (unread c.args.table.now (g.D.Desk.state c.args.desk.now).number
     (end_state_of g.E.Source.left g.E.Sink.held g.E.Source.faults g.E.Sink.faults c.args.end.now)
     (end_state_of g.E.Source.left g.E.Sink.held g.E.Source.faults g.E.Sink.faults c.read_line.new.end)
-    (desk_count_of (g.D.Desk.state c.args.desk.now))
+    (desk_progress_of (g.D.Desk.state c.args.desk.now))
     c.args.ahead.now c.read_line.new.self _ c.read_line.ensures.read c.in_err-at.ensures.none)
 
 pub returns-in_err-said-clause-halted : goal.returns-in_err-said-clause-halted
@@ -24,8 +24,8 @@ returns-in_err-said-clause-halted g c =
     rw (p.1, p.2) (unturned c.args.table.now (g.D.Desk.state c.args.desk.now).number
     (end_state_of g.E.Source.left g.E.Sink.held g.E.Source.faults g.E.Sink.faults c.args.end.now)
     (end_state_of g.E.Source.left g.E.Sink.held g.E.Source.faults g.E.Sink.faults c.read_line.new.end)
-    (desk_count_of (g.D.Desk.state c.args.desk.now))
-    (desk_count_of (g.D.Desk.state c.answer.new.desk))
+    (desk_progress_of (g.D.Desk.state c.args.desk.now))
+    (desk_progress_of (g.D.Desk.state c.answer.new.desk))
     c.args.ahead.now c.read_line.new.self c.in_ok-at.at _ spent.3 c.read_line.ensures.read c.in_ok-at.ensures.quiet c.in_ok-at.ensures.line
     c.in_ok-at.ensures.short spent.4 spent.0 spent.1 spent.2)
 
@@ -37,8 +37,8 @@ returns-then-is_err-clause-halted g c =
     (end_state_of g.E.Source.left g.E.Sink.held g.E.Source.faults g.E.Sink.faults c.args.end.now)
     (end_state_of g.E.Source.left g.E.Sink.held g.E.Source.faults g.E.Sink.faults c.read_line.new.end)
     (end_state_of g.E.Source.left g.E.Sink.held g.E.Source.faults g.E.Sink.faults c.write_said.new.end)
-    (desk_count_of (g.D.Desk.state c.args.desk.now))
-    (desk_count_of (g.D.Desk.state c.answer.new.desk))
+    (desk_progress_of (g.D.Desk.state c.args.desk.now))
+    (desk_progress_of (g.D.Desk.state c.answer.new.desk))
     c.args.ahead.now c.read_line.new.self c.forget.new.self c.in_ok-at.at c.in_ok-said.said answered.0 answered.1
     c.read_line.ensures.read c.in_ok-at.ensures.quiet c.in_ok-at.ensures.line c.in_ok-at.ensures.short answered.2 answered.3
     c.forget.ensures
@@ -52,8 +52,8 @@ returns-in-Bye-clause-halted g c =
     (end_state_of g.E.Source.left g.E.Sink.held g.E.Source.faults g.E.Sink.faults c.args.end.now)
     (end_state_of g.E.Source.left g.E.Sink.held g.E.Source.faults g.E.Sink.faults c.read_line.new.end)
     (end_state_of g.E.Source.left g.E.Sink.held g.E.Source.faults g.E.Sink.faults c.write_said.new.end)
-    (desk_count_of (g.D.Desk.state c.args.desk.now))
-    (desk_count_of (g.D.Desk.state c.answer.new.desk))
+    (desk_progress_of (g.D.Desk.state c.args.desk.now))
+    (desk_progress_of (g.D.Desk.state c.answer.new.desk))
     c.args.ahead.now c.read_line.new.self c.forget.new.self c.in_ok-at.at c.in_ok-said.said answered.0 answered.1
     c.read_line.ensures.read c.in_ok-at.ensures.quiet c.in_ok-at.ensures.line c.in_ok-at.ensures.short answered.2 answered.3
     c.forget.ensures
@@ -68,8 +68,8 @@ returns-in_default-clause-served g c =
     (end_state_of g.E.Source.left g.E.Sink.held g.E.Source.faults g.E.Sink.faults c.args.end.now)
     (end_state_of g.E.Source.left g.E.Sink.held g.E.Source.faults g.E.Sink.faults c.read_line.new.end)
     (end_state_of g.E.Source.left g.E.Sink.held g.E.Source.faults g.E.Sink.faults c.write_said.new.end)
-    (desk_count_of (g.D.Desk.state c.args.desk.now))
-    (desk_count_of (g.D.Desk.state c.answer.new.desk))
+    (desk_progress_of (g.D.Desk.state c.args.desk.now))
+    (desk_progress_of (g.D.Desk.state c.answer.new.desk))
     c.args.ahead.now c.read_line.new.self c.forget.new.self c.in_ok-at.at c.in_ok-said.said answered.0 answered.1
     c.read_line.ensures.read c.in_ok-at.ensures.quiet c.in_ok-at.ensures.line c.in_ok-at.ensures.short answered.2 answered.3
     c.forget.ensures

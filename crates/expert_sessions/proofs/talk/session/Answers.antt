@@ -2,7 +2,7 @@ use Rattle.std.proofs.Common.{◌≡◌, ◌+◌, sym, ◌∙◌, Err, arith}
 use Rattle.turn_lock.specs.declared.fault.TurnFault.TheVariants.{Spent as NoTurn}
 use Rattle.fca_model.specs.declared.Event.TheVariants.{Leave}
 use Rattle.expert_gate.proofs.DeskLemmas.{plays-works, Works-nil, Works-trans}
-use Rattle.expert_sessions.specs.Moves.{end_state_of, desk_count_of}
+use Rattle.expert_sessions.specs.Moves.{end_state_of, desk_progress_of}
 use Rattle.expert_sessions.proofs.MoveLemmas.{one_less-taken, one_less-none, leave-few}
 use Rattle.expert_sessions.proofs.TalkLemmas.{refused, spent_early, left, spent_late, unremembered, served-few}
 use Rattle.expert_sessions.proofs.OrderLemmas.{nothing-in_turn}
@@ -11,7 +11,7 @@ use Rattle.expert_sessions.proofs.talk.session.Goals as goal
 pub returns-in_default-clause-talk : goal.returns-in_default-clause-talk
 returns-in_default-clause-talk g c = refused c.args.table.now c.args.expert c.args.lines
     (end_state_of g.E.Source.left g.E.Sink.held g.E.Source.faults g.E.Sink.faults c.args.end.now)
-    (desk_count_of (g.D.Desk.state c.args.desk.now))
+    (desk_progress_of (g.D.Desk.state c.args.desk.now))
 
 pub returns-in_default-clause-order : goal.returns-in_default-clause-order
 returns-in_default-clause-order g c = nothing-in_turn g.E.Source.left g.E.Sink.held g.E.Source.reads g.E.Source.faults g.E.Sink.faults
@@ -21,8 +21,8 @@ pub returns-in-Spent-clause-talk : goal.returns-in-Spent-clause-talk
 returns-in-Spent-clause-talk g c = spent_early c.args.table.now c.args.expert c.args.lines
     (end_state_of g.E.Source.left g.E.Sink.held g.E.Source.faults g.E.Sink.faults c.args.end.now)
     (end_state_of g.E.Source.left g.E.Sink.held g.E.Source.faults g.E.Sink.faults c.serve_lines.new.end)
-    (desk_count_of (g.D.Desk.state c.args.desk.now))
-    (desk_count_of (g.D.Desk.state c.serve_lines.new.desk))
+    (desk_progress_of (g.D.Desk.state c.args.desk.now))
+    (desk_progress_of (g.D.Desk.state c.serve_lines.new.desk))
     c.serve_lines.result c.serve_lines.ensures.served c.in-Spent.is
 
 pub returns-in-Spent-clause-turns : goal.returns-in-Spent-clause-turns
@@ -35,9 +35,9 @@ returns-in-Ok-leave-clause-talk g c =
     left c.args.table.now c.args.expert c.args.lines
     (end_state_of g.E.Source.left g.E.Sink.held g.E.Source.faults g.E.Sink.faults c.args.end.now)
     (end_state_of g.E.Source.left g.E.Sink.held g.E.Source.faults g.E.Sink.faults c.serve_lines.new.end)
-    (desk_count_of (g.D.Desk.state c.args.desk.now))
-    (desk_count_of (g.D.Desk.state c.serve_lines.new.desk))
-    (desk_count_of (g.D.Desk.state c.leave.new.self))
+    (desk_progress_of (g.D.Desk.state c.args.desk.now))
+    (desk_progress_of (g.D.Desk.state c.serve_lines.new.desk))
+    (desk_progress_of (g.D.Desk.state c.leave.new.self))
     c.serve_lines.result c.in-Ok-leave.field-0 (g.D.Desk.state c.serve_lines.new.desk).number same
     c.serve_lines.ensures.served c.in_default-serve_lines.not-Spent c.in-Ok-leave.ensures.turn.entry
     (one_less-taken (g.D.Desk.state c.serve_lines.new.desk).left (g.D.Desk.state c.leave.new.self).left c.leave.ensures.turn.left
@@ -57,9 +57,9 @@ returns-in-Err-Spent-clause-talk g c =
     spent_late c.args.table.now c.args.expert c.args.lines
     (end_state_of g.E.Source.left g.E.Sink.held g.E.Source.faults g.E.Sink.faults c.args.end.now)
     (end_state_of g.E.Source.left g.E.Sink.held g.E.Source.faults g.E.Sink.faults c.serve_lines.new.end)
-    (desk_count_of (g.D.Desk.state c.args.desk.now))
-    (desk_count_of (g.D.Desk.state c.serve_lines.new.desk))
-    (desk_count_of (g.D.Desk.state c.leave.new.self))
+    (desk_progress_of (g.D.Desk.state c.args.desk.now))
+    (desk_progress_of (g.D.Desk.state c.serve_lines.new.desk))
+    (desk_progress_of (g.D.Desk.state c.leave.new.self))
     c.serve_lines.result c.serve_lines.ensures.served c.in_default-serve_lines.not-Spent c.in-Err-Spent.ensures.turn.err none
 
 pub returns-in-Err-Spent-clause-turns : goal.returns-in-Err-Spent-clause-turns
@@ -73,9 +73,9 @@ returns-clause-talk g c =
     unremembered c.args.table.now c.args.expert c.args.lines
     (end_state_of g.E.Source.left g.E.Sink.held g.E.Source.faults g.E.Sink.faults c.args.end.now)
     (end_state_of g.E.Source.left g.E.Sink.held g.E.Source.faults g.E.Sink.faults c.serve_lines.new.end)
-    (desk_count_of (g.D.Desk.state c.args.desk.now))
-    (desk_count_of (g.D.Desk.state c.serve_lines.new.desk))
-    (desk_count_of (g.D.Desk.state c.leave.new.self))
+    (desk_progress_of (g.D.Desk.state c.args.desk.now))
+    (desk_progress_of (g.D.Desk.state c.serve_lines.new.desk))
+    (desk_progress_of (g.D.Desk.state c.leave.new.self))
     c.serve_lines.result c.serve_lines.ensures.served c.in_default-serve_lines.not-Spent c.in-Err-Memory.ensures.turn.err
     (one_less-taken (g.D.Desk.state c.serve_lines.new.desk).left (g.D.Desk.state c.leave.new.self).left c.leave.ensures.turn.left
     (λ none. let told = c.leave.ensures.turn.spent.1 none in cc))

@@ -1,6 +1,6 @@
 use Rattle.std.proofs.Common.{◌∙◌, ◌≡◌, ◌+◌, ◌<◌, ◌≤◌, ◌++◌, ◌∷◌, [], true, length, ap, sym, subst, arith, slice_get}
 use Rattle.fca_model.specs.Implications.{holds}
-use Rattle.fca_model.specs.Invariant.{distinct_premises}
+use Rattle.fca_model.specs.Invariant.{have_distinct_premises}
 use Rattle.fca_model.specs.Levels.{HasBelow}
 use Rattle.fca_model.specs.Questions.{open_questions}
 use Rattle.implication_closure.specs.Closing.{RuleList}
@@ -131,7 +131,7 @@ invariant_of-self-in-Ok g c =
       wide = ap (λ (p : RuleParts). p.width) ok ∙ c.self.invariant.wide;
       kept = opened_kept
           (subst (λ (p : RuleParts). list_all (holds a.rows) p.known ≡ true) (sym ok) c.self.invariant.kept.hold)
-          (subst (λ (p : RuleParts). distinct_premises p.accepted ≡ true) (sym ok)
+          (subst (λ (p : RuleParts). have_distinct_premises p.accepted ≡ true) (sym ok)
           (accepted_distinct c.self.invariant.kept c.args.i q l c.get-question.ensures))
           (c.in-Ok.ensures.next c.push.new.self.known c.push.new.self.accepted (a.level.size + 1)
           (ap (λ (J : RuleList). J.members) c.all.ensures)

@@ -2,7 +2,7 @@ use Rattle.std.proofs.Common.{◌∙◌, ◌≡◌, true, sym, ap, subst, arith}
 use Rattle.std.specs.List.{list_all}
 use Rattle.fca_model.specs.Context.{Context}
 use Rattle.fca_model.specs.Implications.{holds}
-use Rattle.fca_model.specs.Invariant.{distinct_premises}
+use Rattle.fca_model.specs.Invariant.{have_distinct_premises}
 use Rattle.fca_model.specs.Levels.{HasBelow}
 use Rattle.fca_model.proofs.LevelLemmas.{has_none}
 use Rattle.implication_closure.specs.Closing.{RuleList}
@@ -33,7 +33,7 @@ invariant_of-result g c =
       kept = opened_kept
           (subst (λ (L : Context). list_all (holds L) rules.known ≡ true) (sym c.in_ok-rows.ensures)
           (ap (list_all (holds c.args.rows.now)) known_is ∙ c.requires.hold))
-          (ap distinct_premises none_is)
+          (ap have_distinct_premises none_is)
           (c.in_ok-first.ensures.next rules.known rules.accepted 0 (ap (λ (J : RuleList). J.members) c.all.ensures)
           (subst (λ acc. HasBelow rules.known K 0 acc) (sym none_is) (has_none rules.known K)) (omega arith));
       ahead_wide = c.in_ok-first.ensures.ahead_wide;

@@ -3,7 +3,7 @@ use Rattle.std.specs.List.{slice_get}
 use Rattle.std.specs.Option.{IfSome}
 use Rattle.fca_model.specs.Implications.{Rule, holds}
 use Rattle.fca_model.specs.Questions.{open_questions, has_premise}
-use Rattle.fca_model.specs.Invariant.{IsHeld}
+use Rattle.fca_model.specs.Invariant.{MayBeHeld}
 use Rattle.fca_model.proofs.InvariantLemmas.{held_member}
 use Rattle.level_queue.specs.Queue.{QueueModel}
 use Rattle.level_queue.proofs.OpenLemmas.{kept_open, kept_accepted, kept_increasing, held_is_open}
@@ -28,7 +28,7 @@ pub returns-clause-held : goal.returns-clause-held
 returns-clause-held c held_before true_here new =
     let a = c.self.inside in
     let q = c.args.question.now in
-    let held = subst (λ (b : QueueModel). IsHeld b.known b.context b.accepted q) (sym c.self.view_is) held_before in
+    let held = subst (λ (b : QueueModel). MayBeHeld b.known b.context b.accepted q) (sym c.self.view_is) held_before in
     let holding = ap (λ (b : QueueModel). holds b.context q) c.self.view_is ∙ true_here in
     let unheard = ap (λ (b : QueueModel). has_premise b.accepted q.premise) c.self.view_is ∙ new in
     c.place_of.ensures.there

@@ -1,5 +1,5 @@
 use Rattle.std.proofs.Common.{◌≡◌, length}
-use Rattle.text_pieces.specs.Left.{after_blanks}
+use Rattle.text_pieces.specs.RemainingLines.{after_blanks}
 use Rattle.text_pieces.proofs.lines.Lines.next_filled.Given as goal
 
 abbrev pub invariant-loop-line : goal.invariant-loop-line
