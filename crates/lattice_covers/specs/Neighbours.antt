@@ -25,11 +25,10 @@ abbrev pub AreRowsAbove : Context → Set → {W : ℕ} → RowsAbove W → Type
 AreRowsAbove K A (Many above) = above ≡ rows_above K A
 AreRowsAbove K A (Few kept objects) = AreKept K A kept.value objects
 
--- the link has the rows that contain its intent, and for each attribute a witness
+-- the link has the rows that contain its intent, and each witness that it has is one
 pub record IsLink (K : Context) {W : ℕ} (link : Link W) : Type 0 where
   pub wide : length link.intent ≡ K.width
   pub above : AreRowsAbove K link.intent link.above
-  pub many : length link.witnesses.items ≡ K.width
   pub witnesses : AreWitnesses K link.intent link.witnesses.items
 
 abbrev pub AreLinks : Context → {W : ℕ} → List (Link W) → Type 0

@@ -2,8 +2,9 @@
 //! above it.
 
 ghost use Rattle.std.specs.Prelude.{◌≡◌, ◌<◌, ◌≤◌, ℕ, [], true, false, not, ◌||◌, length, slice_set, slice_index_or, MatchOption, IfOk};
-ghost use Rattle.fca_model.specs.Sets.{within};
-ghost use Rattle.fca_model.specs.Context.{closure};
+ghost use Rattle.fca_model.specs.Sets.{Set, within};
+ghost use Rattle.fca_model.specs.Context.{Context, closure};
+ghost use Rattle.lectic_concepts.specs.Branches.{AreWitnesses};
 ghost use Rattle.extent_places.specs.Objects.{rows_above};
 ghost use Rattle.lattice_covers.specs.Neighbours.{AreRowsAbove, IsLink, AreLinks};
 
@@ -14,8 +15,13 @@ use extent_places::{
     objects_with, with,
 };
 use fca_model::Memory;
+use lectic_concepts::own_witnesses;
 use std::alloc::Global;
 use std::rc::Rc;
+
+/// Where few rows are left, witnesses are passed on only in tables of at least so many attributes. In narrower tables the copies take longer than the closures
+/// that they spare.
+const MANY_ATTRIBUTES: u32 = 20;
 
 /// Few rows, with the objects of each attribute.
 #[derive(Drop)]
@@ -40,7 +46,7 @@ pub(crate) struct Link<const W: usize> {
     pub(crate) intent: Bits<W>,
     /// The rows that contain it.
     pub(crate) above: RowsAbove<W>,
-    /// For each attribute a witness: a member of the closure of the intent with it.
+    /// For each attribute, as far as the list goes, a witness: a member of the closure of the intent with it.
     pub(crate) witnesses: Vec<u32>,
     /// An attribute that was not allowed in the closure that failed last.
     pub(crate) further: u32,
@@ -80,12 +86,33 @@ fn next_link<const W: usize>(
     requires larger { within link.now.intent a.now ≡ true }
     ensures { IfOk result (λ next. (next.intent ≡ a.now) × IsLink rows.now next) }
 {
+    let above = rows_among(alloc, rows, link, a)?;
+    let witnesses = next_witnesses(alloc, rows, link, a, &above)?;
     Ok(Link {
         intent: *a,
-        above: rows_among(alloc, rows, link, a)?,
-        witnesses: Vec::from_slice(alloc, &link.witnesses)?,
+        above,
+        witnesses,
         further: rows.width(),
     })
+}
+
+/// The witnesses for a, which contains the intent of the link: those of the link, or none where `above` has few rows and the table few attributes.
+fn next_witnesses<const W: usize>(
+    alloc: Global,
+    rows: &RowsOf<W>,
+    link: &Link<W>,
+    a: &Bits<W>,
+    above: &RowsAbove<W>,
+) -> Result<Vec<u32>, Memory>
+    requires wide { length a.now ≡ rows.now.width }
+    requires link { IsLink rows.now link.now }
+    requires larger { within link.now.intent a.now ≡ true }
+    ensures { IfOk result (λ witnesses. AreWitnesses rows.now a.now witnesses.items) }
+{
+    match above {
+        RowsAbove::Few(_, _) if rows.width() < MANY_ATTRIBUTES => Ok(Vec::new(alloc)),
+        _ => Ok(Vec::from_slice(alloc, &link.witnesses)?),
+    }
 }
 
 /// The link of a, made from all rows.
@@ -97,14 +124,10 @@ fn first_link<const W: usize>(
     requires { length a.now ≡ rows.now.width }
     ensures { IfOk result (λ link. (link.intent ≡ a.now) × IsLink rows.now link) }
 {
-    let mut witnesses = Vec::new(alloc);
-    for i in 0..rows.width() {
-        witnesses.push(i)?;
-    }
     Ok(Link {
         intent: *a,
         above: rows_among_all(alloc, rows, a)?,
-        witnesses,
+        witnesses: own_witnesses(alloc, rows, a)?,
         further: rows.width(),
     })
 }
@@ -331,23 +354,60 @@ pub(crate) fn allowed_closure<const W: usize>(
     ensures link { IsLink rows.now link.new }
     ensures intent { link.new.intent ≡ link.old.intent }
 {
-    if !has(allowed, link.witnesses[i as usize]) {
+    if has_witness(rows, link, i, allowed) {
         return None;
     }
     let further = link.further;
     if lacks(allowed, further) && implies(rows, link, i, further) {
-        link.witnesses[i as usize] = further;
+        note(&mut link.witnesses, i, further);
         return None;
     }
     let closed = closure_with(rows, link, i);
     match closed.first_missing(allowed) {
         None => Some(closed),
         Some(known) => {
-            let last = last_missing(&closed, allowed, known, i);
-            link.witnesses[i as usize] = last;
+            note_missing(&mut link.witnesses, i, &closed, allowed, known);
             link.further = later_missing(&closed, allowed, known, i);
             None
         }
+    }
+}
+
+/// Whether the witness for attribute i shows that the closure of the intent with i has a member that is not allowed. If no witness is known, it does not.
+fn has_witness<const W: usize>(rows: &RowsOf<W>, link: &Link<W>, i: u32, allowed: &Bits<W>) -> bool
+    requires allowed { length allowed.now ≡ rows.now.width }
+    requires link { IsLink rows.now link.now }
+    ensures { result ≡ true → within (closure rows.now (slice_set link.now.intent i true)) allowed.now ≡ false }
+{
+    match link.witnesses.get(i as usize) {
+        None => false,
+        Some(member) => !has(allowed, *member),
+    }
+}
+
+/// Notes a witness for attribute i in the place of the one before, if the list has room for it.
+fn note(witnesses: &mut Vec<u32>, i: u32, member: u32)
+    ensures { witnesses.new.items ≡ slice_set witnesses.old.items i member }
+{
+    if let Some(kept) = witnesses.get_mut(i as usize) {
+        *kept = member;
+    }
+}
+
+/// Notes the last member of the closure that is not allowed as a witness for attribute i, if the list has room for it.
+fn note_missing<const W: usize>(
+    witnesses: &mut Vec<u32>,
+    i: u32,
+    closed: &Bits<W>,
+    allowed: &Bits<W>,
+    known: u32,
+)
+    requires { slice_index_or closed.now known false ≡ true }
+    ensures { (K : Context) (A : Set) → closed.now ≡ closure K (slice_set A i true)
+        → AreWitnesses K A witnesses.old.items → AreWitnesses K A witnesses.new.items }
+{
+    if (i as usize) < witnesses.len() {
+        note(witnesses, i, last_missing(closed, allowed, known, i));
     }
 }
 
