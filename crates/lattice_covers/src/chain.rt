@@ -49,7 +49,7 @@ pub(crate) struct Link<const W: usize> {
     /// For each attribute, as far as the list goes, a witness: a member of the closure of the intent with it.
     pub(crate) witnesses: Vec<u32>,
     /// An attribute that was not allowed in the closure that failed last.
-    pub(crate) further: u32,
+    pub(crate) last_disallowed: u32,
 }
 
 /// The link of a. Links whose intents a does not contain are dropped from the end of the chain. The rows that contain a are found among those of the last link
@@ -92,7 +92,7 @@ fn next_link<const W: usize>(
         intent: *a,
         above,
         witnesses,
-        further: rows.width(),
+        last_disallowed: rows.width(),
     })
 }
 
@@ -128,7 +128,7 @@ fn first_link<const W: usize>(
         intent: *a,
         above: rows_among_all(alloc, rows, a)?,
         witnesses: own_witnesses(alloc, rows, a)?,
-        further: rows.width(),
+        last_disallowed: rows.width(),
     })
 }
 
@@ -357,9 +357,9 @@ pub(crate) fn allowed_closure<const W: usize>(
     if has_witness(rows, link, i, allowed) {
         return None;
     }
-    let further = link.further;
-    if lacks(allowed, further) && implies(rows, link, i, further) {
-        note(&mut link.witnesses, i, further);
+    let last_disallowed = link.last_disallowed;
+    if lacks(allowed, last_disallowed) && implies(rows, link, i, last_disallowed) {
+        note(&mut link.witnesses, i, last_disallowed);
         return None;
     }
     let closed = closure_with(rows, link, i);
@@ -367,7 +367,7 @@ pub(crate) fn allowed_closure<const W: usize>(
         None => Some(closed),
         Some(known) => {
             note_missing(&mut link.witnesses, i, &closed, allowed, known);
-            link.further = later_missing(&closed, allowed, known, i);
+            link.last_disallowed = later_missing(&closed, allowed, known, i);
             None
         }
     }
