@@ -53,9 +53,9 @@ start_of s = record { table = s.table; known = s.known.members }
 
 -- the table in a file, and what is known of it
 abbrev pub start_read : Text → Option Text → (Text → Told) → Reading Start
-start_read file known tells =
+start_read file known_file tells =
     then (table_read file (tells file)) (λ table.
-    then (known_read known table tells) (λ S.
+    then (known_read known_file table tells) (λ S.
     Read (record { table = table; known = S })))
 
 -- ---- why it is not
@@ -85,5 +85,5 @@ IsKnownStop (Some file) table tells rises stop = IsKnownFileStop table (tells fi
 
 -- the stop for the table in the file, or, if that was read, for the known file
 abbrev pub IsStartStop : Text → Option Text → (Text → Told) → (Text → Type 0) → Stop → Type 0
-IsStartStop file known tells rises stop = IsFileStop file (tells file) (rises file) File stop
-    ⊎ ((table : NamedContext) × MayRead (table_read file (tells file)) table × IsKnownStop known table tells rises stop)
+IsStartStop file known_file tells rises stop = IsFileStop file (tells file) (rises file) File stop
+    ⊎ ((table : NamedContext) × MayRead (table_read file (tells file)) table × IsKnownStop known_file table tells rises stop)

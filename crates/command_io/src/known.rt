@@ -36,21 +36,21 @@ pub fn load_start<H: Shelf>(
     alloc: Global,
     shelf: &mut H,
     file: &Word,
-    known: Option<&Word>,
+    known_file: Option<&Word>,
 ) -> Result<Start, Stop>
-    ensures start { IfOk result (λ start. MayRead (start_read file.now (option_copied known.entry) (H.tells shelf.old)) (start_of start)) }
+    ensures start { IfOk result (λ start. MayRead (start_read file.now (option_copied known_file.entry) (H.tells shelf.old)) (start_of start)) }
     ensures width { IfOk result (λ start. start.known.width ≡ start.table.context.width) }
     ensures even { IfOk result (λ start. HaveWidth start.table.context.width start.known.members) }
     ensures respected { IfOk result (λ start. first_break start.known.members 0 start.table.context.rows ≡ None) }
-    ensures refused { IfErr result (λ stop. IsRefusal stop → MayRefuse (start_read file.now (option_copied known.entry) (H.tells shelf.old))) }
-    ensures cause { IfErr result (IsStartStop file.now (option_copied known.entry) (H.tells shelf.old) (Rises (H.faults shelf.old) (H.faults shelf.new))) }
+    ensures refused { IfErr result (λ stop. IsRefusal stop → MayRefuse (start_read file.now (option_copied known_file.entry) (H.tells shelf.old))) }
+    ensures cause { IfErr result (IsStartStop file.now (option_copied known_file.entry) (H.tells shelf.old) (Rises (H.faults shelf.old) (H.faults shelf.new))) }
     ensures quiet { UnlessReadFault result (SameCounts (H.faults shelf.old) (H.faults shelf.new)) }
-    ensures few { RoseAtMost (H.fetches shelf.old) (H.fetches shelf.new) (length (file.now ∷ option_to_list (option_copied known.entry))) }
+    ensures few { RoseAtMost (H.fetches shelf.old) (H.fetches shelf.new) (length (file.now ∷ option_to_list (option_copied known_file.entry))) }
     ensures kept { (other : List ℕ) → H.tells shelf.new other ≡ H.tells shelf.old other }
     ensures only_rise { (other : List ℕ) → H.faults shelf.old other ≤ H.faults shelf.new other }
 {
     let table = load_table(alloc, shelf, file, Origin::File)?;
-    let known = load_known(alloc, shelf, known, &table)?;
+    let known = load_known(alloc, shelf, known_file, &table)?;
     Ok(Start { table, known })
 }
 
@@ -58,21 +58,21 @@ pub fn load_start<H: Shelf>(
 fn load_known<H: Shelf>(
     alloc: Global,
     shelf: &mut H,
-    known: Option<&Word>,
+    known_file: Option<&Word>,
     table: &Table,
 ) -> Result<ImplicationList, Stop>
-    ensures known { IfOk result (λ list. MayRead (known_read (option_copied known.entry) table.now (H.tells shelf.old)) list.members) }
+    ensures known { IfOk result (λ list. MayRead (known_read (option_copied known_file.entry) table.now (H.tells shelf.old)) list.members) }
     ensures width { IfOk result (λ list. list.width ≡ table.now.context.width) }
     ensures even { IfOk result (λ list. HaveWidth table.now.context.width list.members) }
     ensures respected { IfOk result (λ list. first_break list.members 0 table.now.context.rows ≡ None) }
-    ensures refused { IfErr result (λ stop. IsRefusal stop → MayRefuse (known_read (option_copied known.entry) table.now (H.tells shelf.old))) }
-    ensures cause { IfErr result (IsKnownStop (option_copied known.entry) table.now (H.tells shelf.old) (Rises (H.faults shelf.old) (H.faults shelf.new))) }
+    ensures refused { IfErr result (λ stop. IsRefusal stop → MayRefuse (known_read (option_copied known_file.entry) table.now (H.tells shelf.old))) }
+    ensures cause { IfErr result (IsKnownStop (option_copied known_file.entry) table.now (H.tells shelf.old) (Rises (H.faults shelf.old) (H.faults shelf.new))) }
     ensures quiet { UnlessReadFault result (SameCounts (H.faults shelf.old) (H.faults shelf.new)) }
-    ensures few { RoseAtMost (H.fetches shelf.old) (H.fetches shelf.new) (length (option_to_list (option_copied known.entry))) }
+    ensures few { RoseAtMost (H.fetches shelf.old) (H.fetches shelf.new) (length (option_to_list (option_copied known_file.entry))) }
     ensures kept { (other : List ℕ) → H.tells shelf.new other ≡ H.tells shelf.old other }
     ensures only_rise { (other : List ℕ) → H.faults shelf.old other ≤ H.faults shelf.new other }
 {
-    match known {
+    match known_file {
         Some(file) => load_known_file(alloc, shelf, file, table),
         None => Ok(ImplicationList::new(alloc, table.rows().width())?),
     }

@@ -14,13 +14,13 @@ use Rattle.csv_context.proofs.Texts.{both-true}
 use Rattle.text_pieces.specs.Blanks.{trim}
 use Rattle.csv_context.specs.Lines.{is_comma}
 use Rattle.csv_context.specs.Form.{cross_of}
-use Rattle.csv_context.specs.Cells.{TakesCell, is_short_cross, is_short}
+use Rattle.csv_context.specs.Cells.{TakesCell, is_short_cross, begins_short}
 use Rattle.csv_context.proofs.LineLemmas.{next_field-none, next_field-one}
 
 -- ---- the first cell
 
 -- a fact of each byte that is short
-of_short : (P : ℕ → Type 0) → P 88 → P 120 → P 49 → P 46 → P 48 → P 44 → (b : ℕ) → is_short b ≡ true → P b
+of_short : (P : ℕ → Type 0) → P 88 → P 120 → P 49 → P 46 → P 48 → P 44 → (b : ℕ) → begins_short b ≡ true → P b
 of_short P large small one dot none comma b short = elim (cases_Bool (b == 88)) [
   | inl is ↦ subst P (sym (eqb-true b 88 is)) large
   | inr no_large ↦ elim (cases_Bool (b == 120)) [
@@ -40,7 +40,7 @@ of_short P large small one dot none comma b short = elim (cases_Bool (b == 88)) 
   ]
 ]
 
-cross_of-short : (b : ℕ) → is_short b ≡ true → is_comma b ≡ false → cross_of (trim (b ∷ [])) ≡ Some (is_short_cross b)
+cross_of-short : (b : ℕ) → begins_short b ≡ true → is_comma b ≡ false → cross_of (trim (b ∷ [])) ≡ Some (is_short_cross b)
 cross_of-short = of_short (λ b. is_comma b ≡ false → cross_of (trim (b ∷ [])) ≡ Some (is_short_cross b)) (λ _. refl) (λ _. refl) (λ _. refl)
     (λ _. refl) (λ _. refl) (λ other. cc other)
 
@@ -53,7 +53,7 @@ TakesCell-none cells long comma =
 
 -- a cell of one byte
 pub TakesCell-one : (cells : Text) → 2 ≤ length cells → is_comma (get_or cells 0 0) ≡ false → is_comma (get_or cells 1 0) ≡ true
-    → is_short (get_or cells 0 0) ≡ true
+    → begins_short (get_or cells 0 0) ≡ true
     → TakesCell cells (is_short_cross (get_or cells 0 0)) (drop 2 cells)
 TakesCell-one [] long other comma short = absurd (omega arith)
 TakesCell-one (b ∷ []) long other comma short = absurd (omega arith)
@@ -66,7 +66,7 @@ behind-drop cells size = take_all (length cells - size) (drop size cells) (omega
 
 -- both, by the number of its bytes
 pub TakesCell-first : (cells : Text) (size : ℕ) → 2 ≤ length cells → size ≡ from_bool (not (is_comma (get_or cells 0 0)))
-    → is_short (get_or cells 0 0) ≡ true → is_comma (get_or cells size 0) ≡ true
+    → begins_short (get_or cells 0 0) ≡ true → is_comma (get_or cells size 0) ≡ true
     → TakesCell cells (is_short_cross (get_or cells 0 0)) (take (length cells - (size + 1)) (drop (size + 1) cells))
 TakesCell-first cells size long is short comma = elim (cases_Bool (is_comma (get_or cells 0 0))) [
   | inl first ↦

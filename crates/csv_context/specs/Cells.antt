@@ -12,8 +12,8 @@ abbrev pub is_short_cross : ℕ → Bool
 is_short_cross b = (b == 88) || (b == 120) || (b == 49)
 
 -- a byte that alone is a cell, or the comma behind an empty one
-abbrev pub is_short : ℕ → Bool
-is_short b = is_short_cross b || (b == 46) || (b == 48) || is_comma b
+abbrev pub begins_short : ℕ → Bool
+begins_short b = is_short_cross b || (b == 46) || (b == 48) || is_comma b
 
 -- the first cell of some says whether it is a cross, and others are behind its comma
 pub record TakesCell (cells : Text) (cross : Bool) (behind : Text) : Type 0 where

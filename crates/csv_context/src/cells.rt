@@ -63,15 +63,15 @@ fn first_cell(cells: &[u8]) -> FirstCell<'_>
     let first = cells[0];
     let size = usize::from(first != b',');
     FirstCell {
-        is_short: is_short(first) & (cells[size] == b','),
+        is_short: begins_short(first) & (cells[size] == b','),
         is_short_cross: is_short_cross(first),
         behind: &cells[size + 1..],
     }
 }
 
 /// Whether the byte is a cell, or the comma behind an empty one.
-fn is_short(byte: u8) -> bool
-    ensures { result ≡ cell.is_short byte }
+fn begins_short(byte: u8) -> bool
+    ensures { result ≡ cell.begins_short byte }
 {
     is_short_cross(byte) | (byte == b'.') | (byte == b'0') | (byte == b',')
 }

@@ -1,5 +1,5 @@
 pub mod FormLemmas
 pub mod TextLemmas
-pub mod WordLemmas
+pub mod LineFormLemmas
 pub mod ReadBack
 pub mod CellLemmas

@@ -28,7 +28,7 @@ use Rattle.text_pieces.proofs.LineLemmas.{IsLine, IsLine-more, EachLine, EachLin
 use Rattle.text_pieces.proofs.LineLemmas.{IsUtf8-text_of}
 use Rattle.text_pieces.proofs.MarkLemmas.{IsLine-marks_of}
 use Rattle.text_pieces.proofs.NumeralLemmas.{IsLine-decimal}
-use Rattle.cxt_format.proofs.WordLemmas.{count_form-decimal, row_in_marks-marks_of, is_blank_line-marks_of}
+use Rattle.cxt_format.proofs.LineFormLemmas.{count_form-decimal, row_in_marks-marks_of, is_blank_line-marks_of}
 
 -- the form parses x, and leaves these lines
 abbrev Gives : {X : Type 0} → Parsed X → X → List Line → Type 0

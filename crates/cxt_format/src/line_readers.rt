@@ -1,7 +1,7 @@
 //! The readers of single lines.
 
 ghost use Rattle.std.specs.Prelude.{◌≡◌, ◌≤◌, ◌*◌};
-ghost use Rattle.cxt_format.specs.LineForms as form;
+ghost use Rattle.cxt_format.specs.LineForms as line_form;
 ghost use Rattle.text_pieces.specs.Telling.{Tells};
 
 use crate::CxtFault;
@@ -13,14 +13,14 @@ use text_pieces::{is_blank_line, is_numeral, trim, value_of};
 
 /// Whether the line is the letter B, with blanks round it.
 pub fn is_b_line(line: &[u8]) -> bool
-    ensures { result ≡ form.is_b_line line.now }
+    ensures { result ≡ line_form.is_b_line line.now }
 {
     trim(line) == b"B".as_slice()
 }
 
 /// The count on line `number`, which may be at most `most`.
 pub fn count_of(most: usize, number: usize, line: &[u8]) -> Result<usize, CxtFault>
-    ensures { result ≡ form.count_form most number line.now }
+    ensures { result ≡ line_form.count_form most number line.now }
 {
     let word = trim(line);
     if !is_numeral(word) {
@@ -34,7 +34,7 @@ pub fn count_of(most: usize, number: usize, line: &[u8]) -> Result<usize, CxtFau
 
 /// The title on line `number`.
 pub fn title_of(alloc: Global, number: usize, line: &str) -> Result<Option<Name>, CxtFault>
-    ensures { Tells CxtFault.Memory result (form.title_form number line.now) }
+    ensures { Tells CxtFault.Memory result (line_form.title_form number line.now) }
 {
     match Name::new(alloc, line) {
         Ok(name) => Ok(Some(name)),
@@ -47,7 +47,7 @@ pub fn title_of(alloc: Global, number: usize, line: &str) -> Result<Option<Name>
 
 /// The name on line `number`.
 pub fn name_of(alloc: Global, number: usize, line: &str) -> Result<Name, CxtFault>
-    ensures { Tells CxtFault.Memory result (form.name_form number line.now) }
+    ensures { Tells CxtFault.Memory result (line_form.name_form number line.now) }
 {
     match Name::new(alloc, line) {
         Ok(name) => Ok(name),
@@ -62,7 +62,7 @@ pub fn name_of(alloc: Global, number: usize, line: &str) -> Result<Name, CxtFaul
 pub fn row_of<const W: usize>(width: u32, number: usize, line: &[u8]) -> Result<Bits<W>, CxtFault>
     requires few { width ≤ MAX_ATTRIBUTES }
     requires room { width ≤ 64 * W }
-    ensures { result ≡ form.row_form width number line.now }
+    ensures { result ≡ line_form.row_form width number line.now }
 {
     if line.len() < width as usize {
         return Err(CxtFault::BadRow(number));

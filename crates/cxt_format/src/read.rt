@@ -3,7 +3,7 @@
 ghost use Rattle.std.specs.Prelude.{◌≡◌, ◌<◌, ◌≤◌, ◌-◌, ◌*◌, ◌^◌, [], IfOk, false, length, vec_len, bytes_eq};
 ghost use Rattle.std.specs.List.{list_any};
 ghost use Rattle.text_pieces.specs.Lines.{lines};
-ghost use Rattle.cxt_format.specs.LineForms as word;
+ghost use Rattle.cxt_format.specs.LineForms as line_form;
 ghost use Rattle.cxt_format.specs.Form as form;
 ghost use Rattle.text_pieces.specs.Telling.{Tells};
 ghost use Rattle.cxt_format.specs.Form.{Parses};
@@ -85,7 +85,7 @@ fn read_body(alloc: Global, head: Head, lines: &mut Lines<'_>) -> Result<Table, 
 }
 
 fn next_b_line(lines: &mut Lines<'_>) -> Result<(), CxtFault>
-    ensures { Parses (λ x. x) result (form.next word.b_form lines.old) lines.new }
+    ensures { Parses (λ x. x) result (form.next line_form.b_form lines.old) lines.new }
 {
     let number = lines.number();
     match lines.next() {
@@ -101,7 +101,7 @@ fn next_b_line(lines: &mut Lines<'_>) -> Result<(), CxtFault>
 }
 
 fn next_title(alloc: Global, lines: &mut Lines<'_>) -> Result<Option<Name>, CxtFault>
-    ensures { Parses (λ x. x) result (form.next word.title_form lines.old) lines.new }
+    ensures { Parses (λ x. x) result (form.next line_form.title_form lines.old) lines.new }
 {
     let number = lines.number();
     match lines.next() {
@@ -111,7 +111,7 @@ fn next_title(alloc: Global, lines: &mut Lines<'_>) -> Result<Option<Name>, CxtF
 }
 
 fn next_count(most: usize, lines: &mut Lines<'_>) -> Result<usize, CxtFault>
-    ensures form { Parses (λ x. x) result (form.next (word.count_form most) lines.old) lines.new }
+    ensures form { Parses (λ x. x) result (form.next (line_form.count_form most) lines.old) lines.new }
     ensures within { IfOk result (λ count. count ≤ most) }
 {
     let number = lines.number();
@@ -122,7 +122,7 @@ fn next_count(most: usize, lines: &mut Lines<'_>) -> Result<usize, CxtFault>
 }
 
 fn next_name(alloc: Global, lines: &mut Lines<'_>) -> Result<Name, CxtFault>
-    ensures { Parses (λ x. x) result (form.next word.name_form lines.old) lines.new }
+    ensures { Parses (λ x. x) result (form.next line_form.name_form lines.old) lines.new }
 {
     let number = lines.number();
     match lines.next() {
@@ -194,7 +194,7 @@ fn next_attribute(
     names: &IndexSet<Name>,
     lines: &mut Lines<'_>,
 ) -> Result<Name, CxtFault>
-    ensures form { Parses (λ x. x) result (form.next (word.attribute_form names.now.keys) lines.old) lines.new }
+    ensures form { Parses (λ x. x) result (form.next (line_form.attribute_form names.now.keys) lines.old) lines.new }
     ensures new { IfOk result (λ name. list_any (bytes_eq name) names.now.keys ≡ false) }
 {
     let number = lines.number();

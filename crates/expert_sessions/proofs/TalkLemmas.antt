@@ -39,13 +39,13 @@ pub spent_early : (t : NamedContext) (e lines : ℕ) (a b : DuplexState) (c d : 
 spent_early t e lines a b c d ended y is = let x : HasServed t e lines a b c d Spent = subst (λ z. HasServed t e lines a b c d z) is y in
     record {
       taken = x.taken;
-      made = entries_of x.course.served;
-      turns = turns_of x.course.served;
+      made = entries_of x.lines_served.served;
+      turns = turns_of x.lines_served.served;
       sent = x.sent;
       moves = x.moves;
       enters = x.enters;
       talk = inr (record {
-        course = x.course;
+        lines_served = x.lines_served;
         entries = (refl, refl);
         ending = (x.closes.0, inl (x.closes.1, x.closes.2, x.closes.3, x.closes.4));
       });
@@ -55,9 +55,9 @@ spent_early t e lines a b c d ended y is = let x : HasServed t e lines a b c d S
 pub served-few : {t : NamedContext} {e lines : ℕ} {a b : DuplexState} {c d : DeskProgress} {ended : Ended} (k : ℕ) → lines ≤ k
     → HasServed t e lines a b c d ended → TakesTurnsAtMost k c.left d.left
 served-few {t} {e} {lines} {a} {b} {c} {d} k h x =
-    let each = turns_of-few t.context.width e x.course.served x.course.each in
-    let few = x.course.few in
-    TakesTurns-few (turns_of x.course.served) k c.left d.left x.enters.turns (omega arith)
+    let each = turns_of-few t.context.width e x.lines_served.served x.lines_served.each in
+    let few = x.lines_served.few in
+    TakesTurns-few (turns_of x.lines_served.served) k c.left d.left x.enters.turns (omega arith)
 
 -- the reason lies not in the desk
 stops : (t : NamedContext) (e lines : ℕ) (a b : DuplexState) (d : DeskProgress) (ended : Ended) (served : List Exchange) (rest sent unsent : Text)
@@ -103,8 +103,8 @@ pub left : (t : NamedContext) (e lines : ℕ) (a b : DuplexState) (c d d' : Desk
     → d'.entries ≡ d.entries ++ record { event = Leave n; reply = reply } ∷ [] → TakesTurns 1 d.left d'.left
     → HasTalked t e lines a b c d' ended
 left t e lines a b c d d' ended reply n same x unspent added' turn =
-    let entries = entries_of x.course.served in
-    let why = stops t e lines a b d ended x.course.served x.course.rest x.sent x.course.unsent unspent x.closes in
+    let entries = entries_of x.lines_served.served in
+    let why = stops t e lines a b d ended x.lines_served.served x.lines_served.rest x.sent x.lines_served.unsent unspent x.closes in
     let leave : SetEntry = record { event = Leave e; reply = reply } in
     let added : d'.entries ≡ d.entries ++ leave ∷ [] = added'
     ∙ ap (λ (m : ℕ). d.entries ++ record { event = Leave m; reply = reply } ∷ []) same in
@@ -112,15 +112,15 @@ left t e lines a b c d d' ended reply n same x unspent added' turn =
     record {
       taken = x.taken;
       made = entries ++ leave ∷ [];
-      turns = turns_of x.course.served + 1;
+      turns = turns_of x.lines_served.served + 1;
       sent = x.sent;
       moves = x.moves;
       enters = Enters-trans x.enters leaves;
       talk = inr (record {
-        course = x.course;
-        entries = makes t e lines a b ended x.course.served x.course.rest x.sent x.course.unsent entries (entries ++ leave ∷ [])
-            (turns_of x.course.served) why (reply, refl);
-        ending = ends t e lines a b d' ended x.course.served x.course.rest x.sent x.course.unsent why;
+        lines_served = x.lines_served;
+        entries = makes t e lines a b ended x.lines_served.served x.lines_served.rest x.sent x.lines_served.unsent entries (entries ++ leave ∷ [])
+            (turns_of x.lines_served.served) why (reply, refl);
+        ending = ends t e lines a b d' ended x.lines_served.served x.lines_served.rest x.sent x.lines_served.unsent why;
       });
     }
 
@@ -132,15 +132,15 @@ spent_late t e lines a b c d d' ended x unspent same none =
     let nothing : Enters d d' [] 0 = record { added = same ∙ sym (append-nil d.entries); turns = none.1 } in
     record {
       taken = x.taken;
-      made = entries_of x.course.served;
-      turns = turns_of x.course.served;
+      made = entries_of x.lines_served.served;
+      turns = turns_of x.lines_served.served;
       sent = x.sent;
       moves = x.moves;
-      enters = Enters-equal (append-nil (entries_of x.course.served)) (omega arith) (Enters-trans x.enters nothing);
+      enters = Enters-equal (append-nil (entries_of x.lines_served.served)) (omega arith) (Enters-trans x.enters nothing);
       talk = inr (record {
-        course = x.course;
+        lines_served = x.lines_served;
         entries = (refl, refl);
-        ending = (none.0, inr (ended, stops t e lines a b d ended x.course.served x.course.rest x.sent x.course.unsent unspent x.closes));
+        ending = (none.0, inr (ended, stops t e lines a b d ended x.lines_served.served x.lines_served.rest x.sent x.lines_served.unsent unspent x.closes));
       });
     }
 
@@ -153,15 +153,15 @@ unremembered t e lines a b c d d' ended x unspent same turn =
     let nothing : Enters d d' [] 1 = record { added = same ∙ sym (append-nil d.entries); turns = turn } in
     record {
       taken = x.taken;
-      made = entries_of x.course.served;
-      turns = turns_of x.course.served + 1;
+      made = entries_of x.lines_served.served;
+      turns = turns_of x.lines_served.served + 1;
       sent = x.sent;
       moves = x.moves;
-      enters = Enters-equal (append-nil (entries_of x.course.served)) refl (Enters-trans x.enters nothing);
+      enters = Enters-equal (append-nil (entries_of x.lines_served.served)) refl (Enters-trans x.enters nothing);
       talk = inr (record {
-        course = x.course;
+        lines_served = x.lines_served;
         entries = (refl, refl);
-        ending = (ended, stops t e lines a b d ended x.course.served x.course.rest x.sent x.course.unsent unspent x.closes);
+        ending = (ended, stops t e lines a b d ended x.lines_served.served x.lines_served.rest x.sent x.lines_served.unsent unspent x.closes);
       });
     }
 
@@ -179,9 +179,9 @@ untold t e lines a b c d ended x never = record {
   talk = elim x.talk as (λ _. Talk t e lines a b (record { entries = d.entries; left = None }) x.taken x.made x.turns x.sent ended) [
     | inl none ↦ inl none
     | inr served ↦ inr (record {
-      course = served.course;
+      lines_served = served.lines_served;
       entries = served.entries;
-      ending = kept ended served.course.served served.course.rest x.sent served.course.unsent served.ending;
+      ending = kept ended served.lines_served.served served.lines_served.rest x.sent served.lines_served.unsent served.ending;
     })
   ];
 }

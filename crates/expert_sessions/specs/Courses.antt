@@ -121,6 +121,6 @@ pub record HasServed (t : NamedContext) (e lines : ℕ) (a b : DuplexState) (c d
   pub taken : Text
   pub sent : Text
   pub moves : Moves a b taken sent
-  pub course : LinesServed t e lines taken sent (Rose a.write_faults b.write_faults)
-  pub enters : Enters c d (entries_of course.served) (turns_of course.served)
-  pub closes : Closes t e lines a b d ended course.served course.rest sent course.unsent
+  pub lines_served : LinesServed t e lines taken sent (Rose a.write_faults b.write_faults)
+  pub enters : Enters c d (entries_of lines_served.served) (turns_of lines_served.served)
+  pub closes : Closes t e lines a b d ended lines_served.served lines_served.rest sent lines_served.unsent

@@ -104,9 +104,9 @@ Makes e ended entries k made turns = AndLeaves e entries made × (turns ≡ k + 
 -- a session that had room for a line
 pub record IsServed (t : NamedContext) (e lines : ℕ) (a b : DuplexState) (d : DeskProgress) (taken : Text) (made : List SetEntry) (turns : ℕ)
     (sent : Text) (ended : Ended) : Type 0 where
-  pub course : LinesServed t e lines taken sent (Rose a.write_faults b.write_faults)
-  pub entries : Makes e ended (entries_of course.served) (turns_of course.served) made turns
-  pub ending : EndsTalk t e lines a b d ended course.served course.rest sent course.unsent
+  pub lines_served : LinesServed t e lines taken sent (Rose a.write_faults b.write_faults)
+  pub entries : Makes e ended (entries_of lines_served.served) (turns_of lines_served.served) made turns
+  pub ending : EndsTalk t e lines a b d ended lines_served.served lines_served.rest sent lines_served.unsent
 
 -- a session that had none
 pub record IsRefused (a b : DuplexState) (taken : Text) (made : List SetEntry) (turns : ℕ) (sent : Text) (ended : Ended) : Type 0 where

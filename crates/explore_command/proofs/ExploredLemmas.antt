@@ -279,7 +279,7 @@ IsExploredText-explored p explore oracles spent text expert explored whole spell
       history = H;
       whole = whole ∙ explored_text-explored p explore oracles spent explored;
       spells = spells;
-      course = legal-course p.table (length p.expert_tables) p.settings H expert explored.may.respected explored.may.writable.known legal;
+      explored = legal-course p.table (length p.expert_tables) p.settings H expert explored.may.respected explored.may.writable.known legal;
       shares = (let P : List NamedContext → Type 0 = EachNumbered (IsShare H) in
           let few : is_expert (length oracles) ≡ true =
           ap is_expert (sym (length-map oracles (λ (oracle : Recall). oracle.table)) ∙ ap length explored.tables) ∙ expert in

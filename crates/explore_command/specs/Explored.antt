@@ -69,7 +69,7 @@ pub record IsExploredText (start : ExploreStart) (text : Text) (some_spent : Boo
   pub history : List SetEntry
   pub whole : text ≡ explored_text start history
   pub spells : Spells start.table start.settings history text
-  pub course : IsExplored (exploration_of_start start history)
+  pub explored : IsExplored (exploration_of_start start history)
   pub shares : EachNumbered (IsShare history) start.expert_tables
   pub others : (e : ℕ) → (e ≡ 0) ⊎ (length start.expert_tables < e) → own history e ≡ []
   pub spent : (some_spent ≡ true) ↔ ((e : ℕ) × (1 ≤ e) × (e ≤ length start.expert_tables) × (ends_done (own history e) ≡ false))

@@ -77,8 +77,8 @@ experts_read table (file ∷ rest) tells =
 
 -- the table in the first file, what is known of it, and the tables of the experts in the others
 abbrev pub explore_read : Text → Option Text → Bool → List Text → (Text → Told) → Reading ExploreStart
-explore_read file known wants_names files tells =
-    then (start_read file known tells) (λ start.
+explore_read file known_file wants_names files tells =
+    then (start_read file known_file tells) (λ start.
     then (experts_read start.table files tells) (λ tables.
     Read (record { table = start.table; settings = settings_by start.known wants_names files; expert_tables = tables })))
 
@@ -97,5 +97,5 @@ IsExpertsStop table place (file ∷ later) tells rises stop = IsExpertStop table
 
 -- the stop for the first file or the known file, or, if both were read, for the files of the experts
 abbrev pub IsExploreStop : Text → Option Text → List Text → (Text → Told) → (Text → Type 0) → Stop → Type 0
-IsExploreStop file known files tells rises stop = IsStartStop file known tells rises stop
-    ⊎ ((start : Start) × MayRead (start_read file known tells) start × IsExpertsStop start.table 0 files tells rises stop)
+IsExploreStop file known_file files tells rises stop = IsStartStop file known_file tells rises stop
+    ⊎ ((start : Start) × MayRead (start_read file known_file tells) start × IsExpertsStop start.table 0 files tells rises stop)

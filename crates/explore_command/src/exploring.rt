@@ -33,19 +33,19 @@ pub fn explore<R: Threads + Wait + Sync, H: Shelf>(
     alloc: Global,
     shelf: &mut H,
     file: &Word,
-    known: Option<&Word>,
+    known_file: Option<&Word>,
     wants_names: bool,
     files: &[Word],
 ) -> Result<Output, Stop>
     requires { is_expert (length files.now) ≡ true }
-    ensures output { IfOk result (MayExplore (explore_read file.now (option_copied known.entry) wants_names files.now (H.tells shelf.old))) }
-    ensures refused { IfErr result (λ stop. IsRefusal stop → MayRefuse (explore_read file.now (option_copied known.entry) wants_names files.now (H.tells shelf.old))) }
-    ensures cause { IfErr result (IsExploreStop file.now (option_copied known.entry) files.now (H.tells shelf.old)
+    ensures output { IfOk result (MayExplore (explore_read file.now (option_copied known_file.entry) wants_names files.now (H.tells shelf.old))) }
+    ensures refused { IfErr result (λ stop. IsRefusal stop → MayRefuse (explore_read file.now (option_copied known_file.entry) wants_names files.now (H.tells shelf.old))) }
+    ensures cause { IfErr result (IsExploreStop file.now (option_copied known_file.entry) files.now (H.tells shelf.old)
         (Rises (H.faults shelf.old) (H.faults shelf.new))) }
     ensures quiet { UnlessReadFault result (SameCounts (H.faults shelf.old) (H.faults shelf.new)) }
-    ensures few { RoseAtMost (H.fetches shelf.old) (H.fetches shelf.new) (length (file.now ∷ option_to_list (option_copied known.entry) ++ files.now)) }
+    ensures few { RoseAtMost (H.fetches shelf.old) (H.fetches shelf.new) (length (file.now ∷ option_to_list (option_copied known_file.entry) ++ files.now)) }
 {
-    let start = load_explore_start(alloc, shelf, file, known, wants_names, files)?;
+    let start = load_explore_start(alloc, shelf, file, known_file, wants_names, files)?;
     Ok(explore_output(rt, alloc, start)?)
 }
 

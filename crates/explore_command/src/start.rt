@@ -53,22 +53,22 @@ pub fn load_explore_start<H: Shelf>(
     alloc: Global,
     shelf: &mut H,
     file: &Word,
-    known: Option<&Word>,
+    known_file: Option<&Word>,
     wants_names: bool,
     files: &[Word],
 ) -> Result<ExploreStart, Stop>
     requires { is_expert (length files.now) ≡ true }
-    ensures start { IfOk result (λ start. MayRead (explore_read file.now (option_copied known.entry) wants_names files.now (H.tells shelf.old)) start) }
+    ensures start { IfOk result (λ start. MayRead (explore_read file.now (option_copied known_file.entry) wants_names files.now (H.tells shelf.old)) start) }
     ensures count { IfOk result (λ start. length start.expert_tables ≡ length files.now) }
     ensures wide { IfOk result (λ start. All (λ expert. expert.context.width ≡ start.table.context.width) start.expert_tables) }
-    ensures refused { IfErr result (λ stop. IsRefusal stop → MayRefuse (explore_read file.now (option_copied known.entry) wants_names files.now (H.tells shelf.old))) }
-    ensures cause { IfErr result (IsExploreStop file.now (option_copied known.entry) files.now (H.tells shelf.old)
+    ensures refused { IfErr result (λ stop. IsRefusal stop → MayRefuse (explore_read file.now (option_copied known_file.entry) wants_names files.now (H.tells shelf.old))) }
+    ensures cause { IfErr result (IsExploreStop file.now (option_copied known_file.entry) files.now (H.tells shelf.old)
         (Rises (H.faults shelf.old) (H.faults shelf.new))) }
     ensures quiet { UnlessReadFault result (SameCounts (H.faults shelf.old) (H.faults shelf.new)) }
-    ensures few { RoseAtMost (H.fetches shelf.old) (H.fetches shelf.new) (length (file.now ∷ option_to_list (option_copied known.entry) ++ files.now)) }
+    ensures few { RoseAtMost (H.fetches shelf.old) (H.fetches shelf.new) (length (file.now ∷ option_to_list (option_copied known_file.entry) ++ files.now)) }
 {
     let names = names_by_files(alloc, wants_names, files)?;
-    let start = load_start(alloc, shelf, file, known)?;
+    let start = load_start(alloc, shelf, file, known_file)?;
     let tables = load_expert_tables(alloc, shelf, &start.table, files)?;
     Ok(explore_start_of(start, names, tables))
 }

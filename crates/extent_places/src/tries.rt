@@ -9,9 +9,9 @@ use attr_bits::Bits;
 use derivation::RowsOf;
 
 /// The rows of an extent are joined if it has no more objects than this.
-const FEW: usize = 4;
+const MOST_JOINED: usize = 4;
 
-/// The attributes from which a child of a may come. If a has few objects, these are the attributes that one of the objects has, and the first that a lacks. With
+/// The attributes from which a child of a may come. If a has no more objects than `MOST_JOINED`, these are the attributes that one of the objects has, and the first that a lacks. With
 /// any other attribute no object is left, so the closure is the full set, and that has an earlier attribute that a lacks.
 pub fn attributes_to_try<const W: usize>(rows: &RowsOf<W>, a: &Bits<W>, places: &[u16]) -> Bits<W>
     requires wide { length a.now ≡ rows.now.width }
@@ -20,7 +20,7 @@ pub fn attributes_to_try<const W: usize>(rows: &RowsOf<W>, a: &Bits<W>, places: 
     ensures tries { AreAttributesToTry rows.now a.now result }
 {
     let full = Bits::full(rows.width());
-    if places.len() > FEW {
+    if places.len() > MOST_JOINED {
         return full.minus(a);
     }
     let mut reached = join_of_rows(rows, a, places);

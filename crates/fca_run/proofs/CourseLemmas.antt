@@ -67,7 +67,7 @@ explore-tells reading output explored =
     (conflicts_text p.table.attributes (rules_of (last_state (exploration_of_start p is.history))) (dropped_in is.history 1 p.expert_tables))
     output.text
     (read_after reading p (λ q. Read (opening_of q.table (length q.expert_tables) q.settings))
-    (opening_of p.table (length p.expert_tables) p.settings) explored.read refl) is.whole is.spells is.course
+    (opening_of p.table (length p.expert_tables) p.settings) explored.read refl) is.whole is.spells is.explored
 
 -- by a script
 pub replay-tells : (reading : Reading Exploration) (output : Output) → MayReplay reading output
@@ -78,7 +78,7 @@ replay-tells reading output replay =
     let is : output.text ≡ text = ap (λ (o : Output). o.text) replay.whole in
     tells (then reading (λ q. Read q.opening)) r [] output.text (read_after reading r (λ q. Read q.opening) r.opening replay.read refl)
     (is ∙ sym (append-nil text))
-    (subst (Spells r.opening.table r.opening.settings r.journal) (sym is) replay.is.spells) replay.is.course
+    (subst (Spells r.opening.table r.opening.settings r.journal) (sym is) replay.is.spells) replay.is.explored
 
 -- by experts at the ends of a link
 module _ {E : Type 0} (end_sides : Sides E) where
@@ -90,4 +90,4 @@ module _ {E : Type 0} (end_sides : Sides E) where
       let is = serve.2.is in
       tells (then reading (λ start. Read (opening_by experts holders start))) (exploration_of_opening o is.history)
       (sessions_text (map ended_words is.ended)) output.text
-      (read_after reading serve.0 (λ start. Read (opening_by experts holders start)) o serve.1 refl) is.text is.spells is.course
+      (read_after reading serve.0 (λ start. Read (opening_by experts holders start)) o serve.1 refl) is.text is.spells is.explored

@@ -77,7 +77,7 @@ no_items (x ∷ xs) h = absurd (omega arith)
 pub MayReplay-made : (reading : Reading Exploration) (made : Exploration) (r : Result Output Stop) → MayRead reading made → IsExplored made
     → IfOk r (λ output. output ≡ exploration_output made) → OnOk r (SpellsItself made) → IfOk r (MayReplay reading)
 MayReplay-made reading made (Ok output) may course whole spells =
-    record { made = made; read = may; is = record { course = course; spells = spells }; whole = whole }
+    record { made = made; read = may; is = record { explored = course; spells = spells }; whole = whole }
 MayReplay-made reading made (Err stop) may course whole spells = tt
 
 -- ---- the stop of an input is of no file

@@ -59,14 +59,14 @@ exploration_by table settings events =
 
 -- the exploration by the script on the input, from this start, with this known file, if there is one
 abbrev pub exploration_read : Option Text → Option Text → Start → Reading Exploration
-exploration_read known input start =
+exploration_read known_file input start =
     then (script_read start.table.context.width input) (λ said.
-    then (settings_read known start.known start.table said) (λ settings.
+    then (settings_read known_file start.known start.table said) (λ settings.
     Read (exploration_by start.table settings said.events)))
 
 -- the exploration that `replay` records
 abbrev pub replay_read : Text → Option Text → (Text → Told) → Option Text → Reading Exploration
-replay_read file known tells input = then (start_read file known tells) (exploration_read known input)
+replay_read file known_file tells input = then (start_read file known_file tells) (exploration_read known_file input)
 
 -- the text of an exploration
 abbrev pub exploration_output : Exploration → Output
@@ -74,7 +74,7 @@ exploration_output r = record { text = explore_text r.opening.table r.opening.se
 
 -- what `replay` writes
 abbrev pub replay_output : Text → Option Text → (Text → Told) → Option Text → Reading Output
-replay_output file known tells input = then (replay_read file known tells input) (λ r. Read (exploration_output r))
+replay_output file known_file tells input = then (replay_read file known_file tells input) (λ r. Read (exploration_output r))
 
 -- The replay of the exploration's table on the text is exactly this exploration, whatever file has the table, if there is no known file.
 -- Its text is the transcript and the sections, without the lines after them
@@ -89,7 +89,7 @@ SpellsItself r = Spells r.opening.table r.opening.settings r.journal (exploratio
 -- What is promised of it, whatever its events were: its journal is one legal history with the questions and the basis of an exploration,
 -- and the text that is written spells this history
 pub record IsReplayed (r : Exploration) : Type 0 where
-  pub course : IsExplored r
+  pub explored : IsExplored r
   pub spells : SpellsItself r
 
 -- the output of a replay that may have read this
@@ -109,10 +109,10 @@ IsSettingsStop (Some file) table said stop = (line : ℕ) × (said.second ≡ So
 
 -- the stop for the script on the input, or, if that was read, for its settings
 abbrev pub IsInputStop : Option Text → NamedContext → Option Text → Type 0 → Stop → Type 0
-IsInputStop known table input rose stop = IsScriptStop table.context.width input rose stop
+IsInputStop known_file table input rose stop = IsScriptStop table.context.width input rose stop
     ⊎ ((said : ScriptContent) × MayRead (script_read table.context.width input) said × IsSettingsStop known table said stop)
 
 -- The stop for the files of a replay, or, if these were read, for its script
 abbrev pub IsReplayStop : Text → Option Text → (Text → Told) → Option Text → (Text → Type 0) → Type 0 → Stop → Type 0
-IsReplayStop file known tells input rises rose stop = IsStartStop file known tells rises stop
-    ⊎ ((start : Start) × MayRead (start_read file known tells) start × IsInputStop known start.table input rose stop)
+IsReplayStop file known_file tells input rises rose stop = IsStartStop file known_file tells rises stop
+    ⊎ ((start : Start) × MayRead (start_read file known_file tells) start × IsInputStop known_file start.table input rose stop)

@@ -33,20 +33,20 @@ pub fn replay<H: Shelf, S: Source>(
     shelf: &mut H,
     input: &mut S,
     file: &Word,
-    known: Option<&Word>,
+    known_file: Option<&Word>,
 ) -> Result<Output, Stop>
-    ensures output { IfOk result (λ output. MayRead (replay_output file.now (option_copied known.entry) (H.tells shelf.old) (S.left input.old)) output) }
-    ensures replayed { IfOk result (MayReplay (replay_read file.now (option_copied known.entry) (H.tells shelf.old) (S.left input.old))) }
+    ensures output { IfOk result (λ output. MayRead (replay_output file.now (option_copied known_file.entry) (H.tells shelf.old) (S.left input.old)) output) }
+    ensures replayed { IfOk result (MayReplay (replay_read file.now (option_copied known_file.entry) (H.tells shelf.old) (S.left input.old))) }
     ensures end { OnOk result (IsAtEnd (S.left input.new)) }
     ensures unread { IfErr result (λ stop. IsOfFile stop → input.new ≡ input.old) }
-    ensures refused { IfErr result (λ stop. IsRefusal stop → MayRefuse (replay_output file.now (option_copied known.entry) (H.tells shelf.old) (S.left input.old))) }
-    ensures cause { IfErr result (IsReplayStop file.now (option_copied known.entry) (H.tells shelf.old) (S.left input.old)
+    ensures refused { IfErr result (λ stop. IsRefusal stop → MayRefuse (replay_output file.now (option_copied known_file.entry) (H.tells shelf.old) (S.left input.old))) }
+    ensures cause { IfErr result (IsReplayStop file.now (option_copied known_file.entry) (H.tells shelf.old) (S.left input.old)
         (Rises (H.faults shelf.old) (H.faults shelf.new)) (Rose (S.faults input.old) (S.faults input.new))) }
     ensures quiet { UnlessReadFault result (SameCounts (H.faults shelf.old) (H.faults shelf.new)) }
-    ensures few { RoseAtMost (H.fetches shelf.old) (H.fetches shelf.new) (length (file.now ∷ option_to_list (option_copied known.entry))) }
+    ensures few { RoseAtMost (H.fetches shelf.old) (H.fetches shelf.new) (length (file.now ∷ option_to_list (option_copied known_file.entry))) }
     ensures quiet_input { UnlessReadFault result (S.faults input.new ≡ S.faults input.old) }
 {
-    let explore = exploration(alloc, shelf, input, file, known)?;
+    let explore = exploration(alloc, shelf, input, file, known_file)?;
     exploration_output(alloc, &explore)
 }
 
@@ -56,22 +56,22 @@ fn exploration<H: Shelf, S: Source>(
     shelf: &mut H,
     input: &mut S,
     file: &Word,
-    known: Option<&Word>,
+    known_file: Option<&Word>,
 ) -> Result<Explore, Stop>
-    ensures exploration { IfOk result (λ explore. MayRead (replay_read file.now (option_copied known.entry) (H.tells shelf.old) (S.left input.old)) (exploration_of explore)) }
-    ensures course { IfOk result (λ explore. IsExplored (exploration_of explore)) }
+    ensures exploration { IfOk result (λ explore. MayRead (replay_read file.now (option_copied known_file.entry) (H.tells shelf.old) (S.left input.old)) (exploration_of explore)) }
+    ensures explored { IfOk result (λ explore. IsExplored (exploration_of explore)) }
     ensures writable { IfOk result (λ explore. SettingsCanBeWritten explore.opening.table.context.width explore.opening.settings) }
     ensures end { OnOk result (IsAtEnd (S.left input.new)) }
     ensures unread { IfErr result (λ stop. IsOfFile stop → input.new ≡ input.old) }
-    ensures refused { IfErr result (λ stop. IsRefusal stop → MayRefuse (replay_read file.now (option_copied known.entry) (H.tells shelf.old) (S.left input.old))) }
-    ensures cause { IfErr result (IsReplayStop file.now (option_copied known.entry) (H.tells shelf.old) (S.left input.old)
+    ensures refused { IfErr result (λ stop. IsRefusal stop → MayRefuse (replay_read file.now (option_copied known_file.entry) (H.tells shelf.old) (S.left input.old))) }
+    ensures cause { IfErr result (IsReplayStop file.now (option_copied known_file.entry) (H.tells shelf.old) (S.left input.old)
         (Rises (H.faults shelf.old) (H.faults shelf.new)) (Rose (S.faults input.old) (S.faults input.new))) }
     ensures quiet { UnlessReadFault result (SameCounts (H.faults shelf.old) (H.faults shelf.new)) }
-    ensures few { RoseAtMost (H.fetches shelf.old) (H.fetches shelf.new) (length (file.now ∷ option_to_list (option_copied known.entry))) }
+    ensures few { RoseAtMost (H.fetches shelf.old) (H.fetches shelf.new) (length (file.now ∷ option_to_list (option_copied known_file.entry))) }
     ensures quiet_input { UnlessReadFault result (S.faults input.new ≡ S.faults input.old) }
 {
-    let start = load_start(alloc, shelf, file, known)?;
-    explore_by_script(alloc, input, known, start)
+    let start = load_start(alloc, shelf, file, known_file)?;
+    explore_by_script(alloc, input, known_file, start)
 }
 
 /// Explores the table of the start by the script on the input. The known implications of the start are those of the known file, if one is given.
@@ -85,7 +85,7 @@ fn explore_by_script<S: Source>(
     requires even { HaveWidth start.table.context.width start.known.members }
     requires respected { first_break start.known.members 0 start.table.context.rows ≡ None }
     ensures exploration { IfOk result (λ explore. MayRead (exploration_read (option_copied known_file.entry) (S.left input.old) (start_of start)) (exploration_of explore)) }
-    ensures course { IfOk result (λ explore. IsExplored (exploration_of explore)) }
+    ensures explored { IfOk result (λ explore. IsExplored (exploration_of explore)) }
     ensures writable { IfOk result (λ explore. SettingsCanBeWritten explore.opening.table.context.width explore.opening.settings) }
     ensures end { OnOk result (IsAtEnd (S.left input.new)) }
     ensures refused { IfErr result (λ stop. IsRefusal stop → MayRefuse (exploration_read (option_copied known_file.entry) (S.left input.old) (start_of start))) }

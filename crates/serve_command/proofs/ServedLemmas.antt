@@ -108,7 +108,7 @@ module _ {E : Type 0} (left held : E → Option Text) (reads : E → Option ℕ)
         ended = ended;
         text = subst Joined over.opening made.joined;
         spells = subst Spelled over.opening made.spells;
-        course = legal-course o.table o.experts o.settings H expert known even legal;
+        explored = legal-course o.table o.experts o.settings H expert known even legal;
         talks = over.talks;
         others = over.others;
         ending = subst EndsSo over.opening made.ending;

@@ -55,7 +55,7 @@ module _ {E : Type 0} (left held : E → Option Text) (reads : E → Option ℕ)
     pub ended : List Ended
     pub text : written ≡ served_text o history ended
     pub spells : Spells o.table o.settings history written
-    pub course : IsExplored (exploration_of_opening o history)
+    pub explored : IsExplored (exploration_of_opening o history)
     pub talks : EachTalks left held reads read_faults write_faults o.table MAX_LINES history 1 before after ended
     pub others : (e : ℕ) → (e ≡ 0) ⊎ (length before < e) → own history e ≡ []
     pub ending : end ≡ ending_of (last_open (exploration_of_opening o history))
@@ -108,5 +108,5 @@ module _ {E : Type 0} (left held : E → Option Text) (reads : E → Option ℕ)
 
 -- the stop for the files, or, if these were read, for the link, whose count of faults rose
 abbrev pub IsServeStop : Text → Option Text → (Text → Told) → (Text → Type 0) → Type 0 → Stop → Type 0
-IsServeStop file known tells rises link_rose stop = IsStartStop file known tells rises stop
-    ⊎ ((stop ≡ ListenerFault) × (start : Start) × MayRead (start_read file known tells) start × link_rose)
+IsServeStop file known_file tells rises link_rose stop = IsStartStop file known_file tells rises stop
+    ⊎ ((stop ≡ ListenerFault) × (start : Start) × MayRead (start_read file known_file tells) start × link_rose)

@@ -47,7 +47,7 @@ pub fn serve<R: Threads + Wait + Sync, H: Shelf, L: Listener>(
     alloc: Global,
     shelf: &mut H,
     file: &Word,
-    known: Option<&Word>,
+    known_file: Option<&Word>,
     invitation: &Invitation<'_>,
     link: &mut L,
 ) -> Result<Output, Stop>
@@ -56,23 +56,23 @@ pub fn serve<R: Threads + Wait + Sync, H: Shelf, L: Listener>(
     requires closed { L.listens link.old ≡ false }
 
     ensures output { IfOk result (MayServe L.End.Source.left L.End.Sink.held L.End.Source.reads L.End.Source.faults L.End.Sink.faults
-        (start_read file.now (option_copied known.entry) (H.tells shelf.old)) invitation.now.experts invitation.now.holders
+        (start_read file.now (option_copied known_file.entry) (H.tells shelf.old)) invitation.now.experts invitation.now.holders
         (L.ends link.old) (L.ends link.new)) }
     ensures listens { OnOk result ((L.listens link.new ≡ true) × MayListenAt (L.listens_at link.new) invitation.now.address.now) }
 
     // If the files could not be read, the link is as it was.
-    ensures refused { IfErr result (λ stop. IsRefusal stop → MayRefuse (start_read file.now (option_copied known.entry) (H.tells shelf.old))) }
-    ensures cause { IfErr result (IsServeStop file.now (option_copied known.entry) (H.tells shelf.old) (Rises (H.faults shelf.old) (H.faults shelf.new))
+    ensures refused { IfErr result (λ stop. IsRefusal stop → MayRefuse (start_read file.now (option_copied known_file.entry) (H.tells shelf.old))) }
+    ensures cause { IfErr result (IsServeStop file.now (option_copied known_file.entry) (H.tells shelf.old) (Rises (H.faults shelf.old) (H.faults shelf.new))
         (Rises (L.open_faults link.old) (L.open_faults link.new) invitation.now.address.now ⊎ Rose (L.accept_faults link.old) (L.accept_faults link.new))) }
     ensures quiet { UnlessReadFault result (SameCounts (H.faults shelf.old) (H.faults shelf.new)) }
-    ensures few { RoseAtMost (H.fetches shelf.old) (H.fetches shelf.new) (length (file.now ∷ option_to_list (option_copied known.entry))) }
+    ensures few { RoseAtMost (H.fetches shelf.old) (H.fetches shelf.new) (length (file.now ∷ option_to_list (option_copied known_file.entry))) }
     ensures quiet_open { UnlessListenerFault result (SameCounts (L.open_faults link.old) (L.open_faults link.new)) }
     ensures quiet_accept { UnlessListenerFault result (L.accept_faults link.new ≡ L.accept_faults link.old) }
     ensures unheard { IfErr result (λ stop. IsUnread stop → link.new ≡ link.old) }
     ensures ends { IfErr result (λ stop. GaveAllBack L.End.Source.left L.End.Sink.held L.End.Source.reads L.End.Source.faults L.End.Sink.faults
-        invitation.now.experts (L.ends link.old) (L.ends link.new) (stop ≡ Stop.Listener)) }
+        invitation.now.experts (L.ends link.old) (L.ends link.new) (stop ≡ Stop.ListenerFault)) }
 {
-    let start = load_start(alloc, shelf, file, known)?;
+    let start = load_start(alloc, shelf, file, known_file)?;
     let explore = open_exploration(rt, alloc, start, invitation.experts, invitation.holders)?;
     let ends = ends_at(alloc, link, invitation.address.bytes(), invitation.experts)?;
     explore_over(rt, alloc, explore, ends, link)

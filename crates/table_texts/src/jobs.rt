@@ -40,7 +40,7 @@ pub(crate) fn density_of<const W: usize>(children: &[Top<W>]) -> Density {
     }
 }
 
-/// Jobs of about the same work, which have the branches in their order. `split_tops` says that nothing is lost, and this says what it means for branches.
+/// Jobs of about the same work, which have the branches in their order. `group_tops` says that nothing is lost, and this says what it means for branches.
 pub(crate) fn branch_jobs<'a, const W: usize>(
     alloc: Global,
     crosses: &CrossTable<'_, W>,
@@ -52,12 +52,12 @@ pub(crate) fn branch_jobs<'a, const W: usize>(
     ensures branches { IfOk result (λ jobs. all_branches crosses.now jobs.items ≡ branches crosses.now tops.now) }
 {
     let _width = crosses.rows().width();
-    let jobs = split_tops(alloc, tops, density)?;
+    let jobs = group_tops(alloc, tops, density)?;
     Ok(jobs)
 }
 
 /// The branches, split into jobs. The answer is the same wherever they are split.
-fn split_tops<const W: usize>(
+fn group_tops<const W: usize>(
     alloc: Global,
     tops: &[Top<W>],
     density: Density,

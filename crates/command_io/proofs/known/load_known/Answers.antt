@@ -28,8 +28,8 @@ returns-in-Some-clause-few g c =
 
 pub returns-in_err-new-in-None-clause-few : goal.returns-in_err-new-in-None-clause-few
 returns-in_err-new-in-None-clause-few g c =
-    fetched_none (g.H.Shelf.fetches c.args.shelf.now) (length (option_to_list (option_copied c.args.known)))
+    fetched_none (g.H.Shelf.fetches c.args.shelf.now) (length (option_to_list (option_copied c.args.known_file)))
 
 pub returns-in_ok-new-in-None-clause-few : goal.returns-in_ok-new-in-None-clause-few
 returns-in_ok-new-in-None-clause-few g c =
-    fetched_none (g.H.Shelf.fetches c.args.shelf.now) (length (option_to_list (option_copied c.args.known)))
+    fetched_none (g.H.Shelf.fetches c.args.shelf.now) (length (option_to_list (option_copied c.args.known_file)))

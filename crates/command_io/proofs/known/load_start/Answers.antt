@@ -15,7 +15,7 @@ use Rattle.command_io.proofs.known.load_start.Goals as goal
 
 pub returns-in_err-table-clause-refused : goal.returns-in_err-table-clause-refused
 returns-in_err-table-clause-refused g c =
-    let known = option_copied c.args.known in
+    let known = option_copied c.args.known_file in
     let tells = g.H.Shelf.tells c.args.shelf.now in
     err-passed c.from_residual.result c.in_err-table.field-0.0
     (λ (s : Stop). (IsRefusal s → MayRefuse (start_read c.args.file.now known tells))) c.from_residual.ensures.1
@@ -26,13 +26,13 @@ returns-in_err-table-clause-refused g c =
 pub returns-in_err-table-clause-cause : goal.returns-in_err-table-clause-cause
 returns-in_err-table-clause-cause g c =
     err-passed c.from_residual.result c.in_err-table.field-0.0
-    (IsStartStop c.args.file.now (option_copied c.args.known) (g.H.Shelf.tells c.args.shelf.now)
+    (IsStartStop c.args.file.now (option_copied c.args.known_file) (g.H.Shelf.tells c.args.shelf.now)
     (Rises (g.H.Shelf.faults c.args.shelf.now) (g.H.Shelf.faults c.load_table.new.shelf)))
     c.from_residual.ensures.1 (inl c.in_err-table.ensures.cause)
 
 pub returns-in_err-known-clause-refused : goal.returns-in_err-known-clause-refused
 returns-in_err-known-clause-refused g c =
-    let known = option_copied c.args.known in
+    let known = option_copied c.args.known_file in
     let tells = g.H.Shelf.tells c.args.shelf.now in
     err-passed c.from_residual-in_err-known.result c.in_err-known.field-0.0
     (λ (s : Stop). (IsRefusal s → MayRefuse (start_read c.args.file.now known tells))) c.from_residual-in_err-known.ensures.1
@@ -42,7 +42,7 @@ returns-in_err-known-clause-refused g c =
 
 pub returns-in_err-known-clause-cause : goal.returns-in_err-known-clause-cause
 returns-in_err-known-clause-cause g c =
-    let known = option_copied c.args.known in
+    let known = option_copied c.args.known_file in
     let stop = c.in_err-known.field-0.0 in
     let tells = g.H.Shelf.tells c.args.shelf.now in
     let counts = g.H.Shelf.faults c.args.shelf.now in
@@ -60,7 +60,7 @@ returns-in_err-known-clause-cause g c =
 
 pub returns-clause-start : goal.returns-clause-start
 returns-clause-start g c =
-    start-read c.args.file.now (option_copied c.args.known) (g.H.Shelf.tells c.args.shelf.now)
+    start-read c.args.file.now (option_copied c.args.known_file) (g.H.Shelf.tells c.args.shelf.now)
     (g.H.Shelf.tells c.load_table.new.shelf) c.in_ok-table.table c.in_ok-known.known.members
     c.in_ok-table.ensures.table c.in_ok-table.ensures.kept c.in_ok-known.ensures.known
 
@@ -89,16 +89,16 @@ returns-clause-quiet g c =
 
 pub returns-in_err-table-clause-few : goal.returns-in_err-table-clause-few
 returns-in_err-table-clause-few g c =
-    let later = length (option_to_list (option_copied c.args.known)) in
+    let later = length (option_to_list (option_copied c.args.known_file)) in
     fetched_within (g.H.Shelf.fetches c.args.shelf.now) (g.H.Shelf.fetches c.load_table.new.shelf) 1 (suc later) (omega arith)
     (fetched_one (g.H.Shelf.fetches c.args.shelf.now) (g.H.Shelf.fetches c.load_table.new.shelf) c.in_err-table.ensures.counted)
 
 pub returns-in_err-known-clause-few : goal.returns-in_err-known-clause-few
 returns-in_err-known-clause-few g c =
     fetched_next (g.H.Shelf.fetches c.args.shelf.now) (g.H.Shelf.fetches c.load_table.new.shelf) (g.H.Shelf.fetches c.load_known.new.shelf)
-    (length (option_to_list (option_copied c.args.known))) c.in_ok-table.ensures.counted c.in_err-known.ensures.few
+    (length (option_to_list (option_copied c.args.known_file))) c.in_ok-table.ensures.counted c.in_err-known.ensures.few
 
 pub returns-clause-few : goal.returns-clause-few
 returns-clause-few g c =
     fetched_next (g.H.Shelf.fetches c.args.shelf.now) (g.H.Shelf.fetches c.load_table.new.shelf) (g.H.Shelf.fetches c.load_known.new.shelf)
-    (length (option_to_list (option_copied c.args.known))) c.in_ok-table.ensures.counted c.in_ok-known.ensures.few
+    (length (option_to_list (option_copied c.args.known_file))) c.in_ok-table.ensures.counted c.in_ok-known.ensures.few

@@ -7,5 +7,5 @@ pub returns-clause-cell : goal.returns-clause-cell
 returns-clause-cell c h =
     let cells : List ℕ = c.args.cells.now in
     let size : ℕ = c.from-size.result in
-    let short = both-true c.is_short.result (get_or cells size 0 == 44) h in
-    rw c.is_short_cross.ensures (TakesCell-first cells size c.requires c.from-size.ensures (sym c.is_short.ensures ∙ short.0) short.1)
+    let short = both-true c.begins_short.result (get_or cells size 0 == 44) h in
+    rw c.is_short_cross.ensures (TakesCell-first cells size c.requires c.from-size.ensures (sym c.begins_short.ensures ∙ short.0) short.1)

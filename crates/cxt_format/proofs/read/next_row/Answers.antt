@@ -1,4 +1,4 @@
-use Rattle.cxt_format.proofs.WordLemmas.{wide-row_form}
+use Rattle.cxt_format.proofs.LineFormLemmas.{wide-row_form}
 use Rattle.cxt_format.proofs.read.next_row.Goals as goal
 
 pub returns-in-Some-clause-wide : goal.returns-in-Some-clause-wide

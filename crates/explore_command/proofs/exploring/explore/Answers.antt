@@ -8,7 +8,7 @@ use Rattle.explore_command.proofs.exploring.explore.Goals as goal
 
 pub returns-clause-output : goal.returns-clause-output
 returns-clause-output g c =
-    MayExplore-read (explore_read c.args.file.now (option_copied c.args.known) c.args.wants_names c.args.files.now
+    MayExplore-read (explore_read c.args.file.now (option_copied c.args.known_file) c.args.wants_names c.args.files.now
     (g.H.Shelf.tells c.args.shelf.now))
     c.in_ok-start.start _ c.in_ok-start.ensures.start c.in_ok-explore_output.ensures
 

@@ -19,7 +19,7 @@ use Rattle.explore_command.proofs.start.load_explore_start.Goals as goal
 
 pub returns-in_err-tables-clause-refused : goal.returns-in_err-tables-clause-refused
 returns-in_err-tables-clause-refused g c =
-    let known = option_copied c.args.known in
+    let known = option_copied c.args.known_file in
     let tells = g.H.Shelf.tells c.args.shelf.now in
     err-passed c.from_residual-in_err-tables.result c.in_err-tables.field-0.0
     (λ (s : Stop). (IsRefusal s → MayRefuse (explore_read c.args.file.now known c.args.wants_names c.args.files.now tells)))
@@ -30,7 +30,7 @@ returns-in_err-tables-clause-refused g c =
 
 pub returns-in_err-tables-clause-cause : goal.returns-in_err-tables-clause-cause
 returns-in_err-tables-clause-cause g c =
-    let known = option_copied c.args.known in
+    let known = option_copied c.args.known_file in
     let tells = g.H.Shelf.tells c.args.shelf.now in
     let now = g.H.Shelf.tells c.load_start.new.shelf in
     let counts = g.H.Shelf.faults c.args.shelf.now in
@@ -65,10 +65,10 @@ returns-clause-start g c =
       settings = record { known = S; holders = MAX_EXPERTS; expert_names = l };
       expert_tables = c.in_ok-tables.tables.items;
     } in
-    let Read : ExploreStart → Type 0 = MayRead (explore_read c.args.file.now (option_copied c.args.known) c.args.wants_names
+    let Read : ExploreStart → Type 0 = MayRead (explore_read c.args.file.now (option_copied c.args.known_file) c.args.wants_names
     c.args.files.now (g.H.Shelf.tells c.args.shelf.now)) in
     subst Read (sym (c.explore_start_of.ensures ∙ ap made c.in_ok-names.ensures))
-    (explore-read c.args.file.now (option_copied c.args.known) c.args.wants_names c.args.files.now (g.H.Shelf.tells c.args.shelf.now)
+    (explore-read c.args.file.now (option_copied c.args.known_file) c.args.wants_names c.args.files.now (g.H.Shelf.tells c.args.shelf.now)
     (g.H.Shelf.tells c.load_start.new.shelf) (start_of c.in_ok-start.start)
     c.in_ok-tables.tables.items c.in_ok-start.ensures.start c.in_ok-start.ensures.kept c.in_ok-tables.ensures.tables)
 
@@ -102,18 +102,18 @@ returns-clause-quiet g c =
 pub returns-in_err-names-clause-few : goal.returns-in_err-names-clause-few
 returns-in_err-names-clause-few g c =
     fetched_none (g.H.Shelf.fetches c.args.shelf.now)
-    (length (c.args.file.now ∷ option_to_list (option_copied c.args.known) ++ c.args.files.now))
+    (length (c.args.file.now ∷ option_to_list (option_copied c.args.known_file) ++ c.args.files.now))
 
 pub returns-in_err-start-clause-few : goal.returns-in_err-start-clause-few
 returns-in_err-start-clause-few g c =
-    let files : List Text = c.args.file.now ∷ option_to_list (option_copied c.args.known) in
+    let files : List Text = c.args.file.now ∷ option_to_list (option_copied c.args.known_file) in
     let all = length-append files c.args.files.now in
     fetched_within (g.H.Shelf.fetches c.args.shelf.now) (g.H.Shelf.fetches c.load_start.new.shelf) (length files)
     (length (files ++ c.args.files.now)) (omega (arith, all)) c.in_err-start.ensures.few
 
 pub returns-in_err-tables-clause-few : goal.returns-in_err-tables-clause-few
 returns-in_err-tables-clause-few g c =
-    let files : List Text = c.args.file.now ∷ option_to_list (option_copied c.args.known) in
+    let files : List Text = c.args.file.now ∷ option_to_list (option_copied c.args.known_file) in
     subst (RoseAtMost (g.H.Shelf.fetches c.args.shelf.now) (g.H.Shelf.fetches c.load_expert_tables.new.shelf))
     (sym (length-append files c.args.files.now))
     (fetched_then (g.H.Shelf.fetches c.args.shelf.now) (g.H.Shelf.fetches c.load_start.new.shelf)
@@ -122,7 +122,7 @@ returns-in_err-tables-clause-few g c =
 
 pub returns-clause-few : goal.returns-clause-few
 returns-clause-few g c =
-    let files : List Text = c.args.file.now ∷ option_to_list (option_copied c.args.known) in
+    let files : List Text = c.args.file.now ∷ option_to_list (option_copied c.args.known_file) in
     subst (RoseAtMost (g.H.Shelf.fetches c.args.shelf.now) (g.H.Shelf.fetches c.load_expert_tables.new.shelf))
     (sym (length-append files c.args.files.now))
     (fetched_then (g.H.Shelf.fetches c.args.shelf.now) (g.H.Shelf.fetches c.load_start.new.shelf)

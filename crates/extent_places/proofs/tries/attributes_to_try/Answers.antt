@@ -11,13 +11,13 @@ use Rattle.extent_places.proofs.TryLemmas.{all_tries, few_tries, with_first}
 use Rattle.extent_places.proofs.tries.attributes_to_try.Goals.{in-Some, in_default}
 use Rattle.extent_places.proofs.tries.attributes_to_try.Goals as goal
 
-pub returns-then-places-gt-FEW-clause-wide : goal.returns-then-places-gt-FEW-clause-wide
-returns-then-places-gt-FEW-clause-wide g c =
+pub returns-then-places-gt-MOST_JOINED-clause-wide : goal.returns-then-places-gt-MOST_JOINED-clause-wide
+returns-then-places-gt-MOST_JOINED-clause-wide g c =
     ap length c.minus.ensures ∙ length-minus c.full-full.result c.args.a.now ∙ ap length c.full-full.ensures ∙ length-full c.width.result
     ∙ c.width.ensures.width
 
-pub returns-then-places-gt-FEW-clause-tries : goal.returns-then-places-gt-FEW-clause-tries
-returns-then-places-gt-FEW-clause-tries g c =
+pub returns-then-places-gt-MOST_JOINED-clause-tries : goal.returns-then-places-gt-MOST_JOINED-clause-tries
+returns-then-places-gt-MOST_JOINED-clause-tries g c =
     all_tries c.args.rows.now c.args.a.now c.requires.wide c.minus.result
     (c.minus.ensures ∙ ap (λ (F : Set). minus F c.args.a.now) (c.full-full.ensures ∙ ap full c.width.ensures.width))
 

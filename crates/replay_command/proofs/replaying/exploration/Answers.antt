@@ -10,7 +10,7 @@ use Rattle.replay_command.proofs.replaying.exploration.Goals as goal
 pub returns-clause-unread : goal.returns-clause-unread
 returns-clause-unread g c =
     IfErr-weaker c.explore_by_script.result _ _ (λ stop is. λ file.
-    absurd (stop-of_input (option_copied c.args.known) (start_of c.in_ok-start.start).table
+    absurd (stop-of_input (option_copied c.args.known_file) (start_of c.in_ok-start.start).table
     (g.S.Source.left c.args.input.now) _ stop is file)) c.explore_by_script.ensures.cause
 
 pub returns-in_err-start-clause-quiet : goal.returns-in_err-start-clause-quiet

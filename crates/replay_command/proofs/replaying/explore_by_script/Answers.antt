@@ -9,8 +9,8 @@ use Rattle.replay_command.proofs.CourseLemmas.{explored-course}
 use Rattle.command_io.proofs.QuietLemmas.{unless_fault, fault-passed}
 use Rattle.replay_command.proofs.replaying.explore_by_script.Goals as goal
 
-pub returns-clause-course : goal.returns-clause-course
-returns-clause-course g c =
+pub returns-clause-explored : goal.returns-clause-explored
+returns-clause-explored g c =
     let table = c.args.start.table in
     let wide : c.width.result ≡ table.context.width = c.width.ensures.width ∙ ap (λ (K : Context). K.width) c.rows.ensures.rows in
     let events : c.into_vec.result.items ≡ c.in_ok-script.script.events = c.into_vec.ensures ∙ c.in_ok-settings.ensures.events in

@@ -17,7 +17,7 @@ use Rattle.replay_command.proofs.replaying.replay.Goals as goal
 
 pub returns-clause-output : goal.returns-clause-output
 returns-clause-output g c =
-    let reading = replay_read c.args.file.now (option_copied c.args.known) (g.H.Shelf.tells c.args.shelf.now)
+    let reading = replay_read c.args.file.now (option_copied c.args.known_file) (g.H.Shelf.tells c.args.shelf.now)
     (g.S.Source.left c.args.input.now) in
     let made = exploration_of c.in_ok-explore.explore in
     IfOk-weaker c.exploration_output.result _ _ (λ (output : Output) is. read_after reading made
@@ -26,15 +26,15 @@ returns-clause-output g c =
 
 pub returns-clause-replayed : goal.returns-clause-replayed
 returns-clause-replayed g c =
-    let reading = replay_read c.args.file.now (option_copied c.args.known) (g.H.Shelf.tells c.args.shelf.now)
+    let reading = replay_read c.args.file.now (option_copied c.args.known_file) (g.H.Shelf.tells c.args.shelf.now)
     (g.S.Source.left c.args.input.now) in
     MayReplay-made reading (exploration_of c.in_ok-explore.explore) c.exploration_output.result c.in_ok-explore.ensures.exploration
-    c.in_ok-explore.ensures.course
+    c.in_ok-explore.ensures.explored
     c.exploration_output.ensures.text c.exploration_output.ensures.spells
 
 pub returns-in_err-explore-clause-refused : goal.returns-in_err-explore-clause-refused
 returns-in_err-explore-clause-refused g c =
-    let known = option_copied c.args.known in
+    let known = option_copied c.args.known_file in
     let files = g.H.Shelf.tells c.args.shelf.now in
     let input = g.S.Source.left c.args.input.now in
     err-passed c.from_residual.result c.in_err-explore.field-0.0
@@ -48,7 +48,7 @@ returns-clause-refused g c = IfErr-weaker c.exploration_output.result _ _
 
 pub returns-clause-cause : goal.returns-clause-cause
 returns-clause-cause g c =
-    let Stops : Stop → Type 0 = IsReplayStop c.args.file.now (option_copied c.args.known) (g.H.Shelf.tells c.args.shelf.now)
+    let Stops : Stop → Type 0 = IsReplayStop c.args.file.now (option_copied c.args.known_file) (g.H.Shelf.tells c.args.shelf.now)
     (g.S.Source.left c.args.input.now)
     (Rises (g.H.Shelf.faults c.args.shelf.now) (g.H.Shelf.faults c.exploration.new.shelf))
     (Rose (g.S.Source.faults c.args.input.now) (g.S.Source.faults c.exploration.new.input)) in

@@ -75,13 +75,13 @@ returns-in_err-ends-clause-cause g c =
     ⊎ Rose (g.L.Listener.accept_faults c.args.link.now) (g.L.Listener.accept_faults c.ends_at.new.link) in
     let short = c.in_err-ends.ensures.short in
     err-passed c.from_residual-in_err-ends.result c.in_err-ends.field-0.0 _ c.from_residual-in_err-ends.ensures.1
-    (link-serve c.args.file.now (option_copied c.args.known) (g.H.Shelf.tells c.args.shelf.now) _ _
+    (link-serve c.args.file.now (option_copied c.args.known_file) (g.H.Shelf.tells c.args.shelf.now) _ _
     (start_of c.in_ok-start.start) _ c.in_ok-start.ensures.start
     (λ listener. subst RoseAt c.bytes.ensures (short.fault listener)) short.cause)
 
 pub returns-clause-cause : goal.returns-clause-cause
 returns-clause-cause g c = IfErr-weaker c.explore_over.result _ _
-    (λ stop memory. memory-serve c.args.file.now (option_copied c.args.known) (g.H.Shelf.tells c.args.shelf.now) _ _ stop memory)
+    (λ stop memory. memory-serve c.args.file.now (option_copied c.args.known_file) (g.H.Shelf.tells c.args.shelf.now) _ _ stop memory)
     c.explore_over.ensures.cause
 
 pub returns-in_err-ends-clause-unheard : goal.returns-in_err-ends-clause-unheard
