@@ -12,7 +12,7 @@ use Rattle.value_tables.specs.Form.{first_bad, is_field}
 use Rattle.text_pieces.specs.Telling.{then, unless}
 use Rattle.value_tables.specs.Values.{ValueTable, column, object_at, value_at}
 use Rattle.context_scaling.specs.PlanForm.{few_names, kind_form, kind_of, names_form, or_fault, place_of, record_form}
-use Rattle.context_scaling.specs.PlanForm.{scale_value, plan_record_form, plan_record_of, value_kind}
+use Rattle.context_scaling.specs.PlanForm.{scale_value, plan_record_form, plan_record_of, field_kind}
 use Rattle.context_scaling.specs.Refusals.{HasBadName, HasBadScale, HasBadValue, IsAtFault, IsFaultless, IsFirstFault, IsRecordOf}
 use Rattle.context_scaling.specs.Refusals.{NamesNoKind, numbered_field, is_new_name, turn_of}
 use Rattle.context_scaling.specs.Scaling.{PlanRecord, is_scalable, made_names, names_of}
@@ -37,7 +37,7 @@ only-first P a b at_a at_b before_a before_b = elim (cases_lt a b) [
 
 one-scale : (k : Kind) (fields : Record) (a b : ℕ) → HasBadScale k fields a → HasBadScale k fields b → a ≡ b
 one-scale k fields a b one two =
-    let P : ℕ → Type 0 = λ j. (3 ≤ j) × (is_field (value_kind k) (numbered_field fields j) ≡ false) in
+    let P : ℕ → Type 0 = λ j. (3 ≤ j) × (is_field (field_kind k) (numbered_field fields j) ≡ false) in
     only-first P a b (one.behind, one.bad) (two.behind, two.bad)
     (λ j less at. false≢true (sym at.1 ∙ one.first j at.0 less))
     (λ j less at. false≢true (sym at.1 ∙ two.first j at.0 less))
@@ -121,7 +121,7 @@ module _ (t : ValueTable) (i : ℕ) (plan : List PlanRecord) (fields : Record) (
       by (Some place) found = next place found
 
   scaling-Ok : (s r : PlanRecord) → plan_record_form t i seen fields s ≡ Ok r → s ≡ r
-  scaling-Ok s r is = by_scale (first_bad (value_kind s.kind) 3 (drop 2 fields)) is
+  scaling-Ok s r is = by_scale (first_bad (field_kind s.kind) 3 (drop 2 fields)) is
     where
       by_many : (names : List Text) → few_names i names s ≡ Ok r → s ≡ r
       by_many names is = elim (cases_Bool (nat_lt MAX_ATTRIBUTES (length names))) [
@@ -159,7 +159,7 @@ module _ (t : ValueTable) (i : ℕ) (plan : List PlanRecord) (fields : Record) (
         subst (λ (r : PlanRecord). Refuses f (plan_record_form t i seen fields r)) same next))
 
     past_scale : (f : PlanFault) → 3 < turn_of f → Refuses f (from_values s) → Refuses f (plan_record_form t i seen fields s)
-    past_scale f later next = by (first_bad (value_kind s.kind) 3 (drop 2 fields))
+    past_scale f later next = by (first_bad (field_kind s.kind) 3 (drop 2 fields))
       where
         by : (o : Option ℕ) → Refuses f (unless o (fault.BadScale i) (from_values s))
         by (Some j) = record { told = fault.BadScale i j; is = refl; by = inr later }
@@ -206,9 +206,9 @@ module _ (t : ValueTable) (i : ℕ) (plan : List PlanRecord) (fields : Record) (
           record { told = fault.UnknownAttribute i; is = refl; by = inl (ap fault.UnknownAttribute (sym at.0)) }
       by kind (Some place) found = absurd (at.1 place (place-Some t (get_or fields 1 []) place found))
   refuses (fault.BadScale k j) (same, (s, of, bad)) =
-      past_names_of s of (fault.BadScale k j) (omega arith) (by (first_bad (value_kind s.kind) 3 (drop 2 fields)) refl)
+      past_names_of s of (fault.BadScale k j) (omega arith) (by (first_bad (field_kind s.kind) 3 (drop 2 fields)) refl)
     where
-      by : (o : Option ℕ) → first_bad (value_kind s.kind) 3 (drop 2 fields) ≡ o
+      by : (o : Option ℕ) → first_bad (field_kind s.kind) 3 (drop 2 fields) ≡ o
           → Refuses (fault.BadScale k j) (unless o (fault.BadScale i) (from_values s))
       by None none = absurd (no_bad-scale s.kind fields j none bad)
       by (Some q) found =

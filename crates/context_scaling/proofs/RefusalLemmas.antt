@@ -24,7 +24,7 @@ use Rattle.text_pieces.specs.Telling.{then, unless}
 use Rattle.value_tables.specs.Values.{ValueTable, column, no_object, object_at, value_at}
 use Rattle.value_tables.specs.declared.fields.FieldKind.{FieldKind}
 use Rattle.context_scaling.specs.PlanForm.{add_names, few_names, kind_form, kind_of, names_form, or_fault, place_of}
-use Rattle.context_scaling.specs.PlanForm.{record_form, plan_record_form, plan_record_of, value_kind}
+use Rattle.context_scaling.specs.PlanForm.{record_form, plan_record_form, plan_record_of, field_kind}
 use Rattle.context_scaling.specs.Refusals.{HasBadName, HasBadScale, HasBadValue, IsAtFault, IsRecordOf}
 use Rattle.context_scaling.specs.Refusals.{NamesNoKind, numbered_field, is_new_name}
 use Rattle.context_scaling.specs.Scaling.{PlanRecord, is_scalable, made_names, made_name, names_of}
@@ -424,26 +424,26 @@ scale-field : (fields : Record) (q : ℕ) → 3 ≤ q → get_or (drop 2 fields)
 scale-field fields q from =
     let at : 2 + (q - 3) ≡ q - 1 = omega arith in get_or-drop 2 fields (q - 3) [] ∙ ap (λ (n : ℕ). get_or fields n []) at
 
-pub bad-scale : (k : Kind) (fields : Record) (j : ℕ) → first_bad (value_kind k) 3 (drop 2 fields) ≡ Some j → HasBadScale k fields j
+pub bad-scale : (k : Kind) (fields : Record) (j : ℕ) → first_bad (field_kind k) 3 (drop 2 fields) ≡ Some j → HasBadScale k fields j
 bad-scale k fields j is =
-    let test : Text → Bool = λ field. not (is_field (value_kind k) field) in
-    let first = first-Some test 3 j (drop 2 fields) (sym (first_bad-position (value_kind k) 3 (drop 2 fields)) ∙ is) in
+    let test : Text → Bool = λ field. not (is_field (field_kind k) field) in
+    let first = first-Some test 3 j (drop 2 fields) (sym (first_bad-position (field_kind k) 3 (drop 2 fields)) ∙ is) in
     let less : j < 3 + length (drop 2 fields) = first.inside in
     let behind : 3 ≤ j = first.behind in
     record {
       behind = behind;
       inside = omega (arith, length-drop 2 fields);
-      bad = ap (is_field (value_kind k)) (sym (scale-field fields j behind)) ∙ not-true _ first.passes;
-      first = λ q from below. ap (is_field (value_kind k)) (sym (scale-field fields q from)) ∙ not-false _ (first.fails q from below);
+      bad = ap (is_field (field_kind k)) (sym (scale-field fields j behind)) ∙ not-true _ first.passes;
+      first = λ q from below. ap (is_field (field_kind k)) (sym (scale-field fields q from)) ∙ not-false _ (first.fails q from below);
     }
 
-pub no_bad-scale : (k : Kind) (fields : Record) (j : ℕ) → first_bad (value_kind k) 3 (drop 2 fields) ≡ None → HasBadScale k fields j → ⊥
+pub no_bad-scale : (k : Kind) (fields : Record) (j : ℕ) → first_bad (field_kind k) 3 (drop 2 fields) ≡ None → HasBadScale k fields j → ⊥
 no_bad-scale k fields j none has =
-    let test : Text → Bool = λ field. not (is_field (value_kind k) field) in
-    let no = sym (first_bad-position (value_kind k) 3 (drop 2 fields)) ∙ none in
+    let test : Text → Bool = λ field. not (is_field (field_kind k) field) in
+    let no = sym (first_bad-position (field_kind k) 3 (drop 2 fields)) ∙ none in
     let below : j < 3 + length (drop 2 fields) = omega (arith, has.behind, has.inside, length-drop 2 fields) in
     let good = not-false _ (first-None test 3 (drop 2 fields) no j has.behind below) in
-    false≢true (sym has.bad ∙ ap (is_field (value_kind k)) (sym (scale-field fields j has.behind)) ∙ good)
+    false≢true (sym has.bad ∙ ap (is_field (field_kind k)) (sym (scale-field fields j has.behind)) ∙ good)
 
 no_number : (text : Text) → ((length text == 0) || is_some (number_of text)) ≡ false → (text ≢ []) × (number_of text ≡ None)
 no_number text bad =
@@ -540,7 +540,7 @@ module _ (t : ValueTable) (i : ℕ) (plan : List PlanRecord) (fields : Record) (
         because (fault.BadValue i r) same (refl, (s, of, bad-value t s r found))
     by_value None found is = by_names (names_form i s.kind s.attribute (made_names plan) s.values) refl is
 
-    by_scale : (o : Option ℕ) → first_bad (value_kind s.kind) 3 (drop 2 fields) ≡ o
+    by_scale : (o : Option ℕ) → first_bad (field_kind s.kind) 3 (drop 2 fields) ≡ o
         → unless o (fault.BadScale i) (unless (position_from (λ text. not (is_scalable s.kind text)) 0 (column t s.place))
         (fault.BadValue i)
         (then (names_form i s.kind s.attribute (made_names plan) s.values) (λ names. few_names i names s))) ≡ Err e → At
@@ -564,7 +564,7 @@ module _ (t : ValueTable) (i : ℕ) (plan : List PlanRecord) (fields : Record) (
         first = place-first t (get_or fields 1 []) place found;
         values = refl;
       } in
-      by_scale s of (first_bad (value_kind k) 3 (drop 2 fields)) refl is
+      by_scale s of (first_bad (field_kind k) 3 (drop 2 fields)) refl is
 
   by_kind : (r : Result Kind PlanFault) → EachName t.attributes → kind_form i fields ≡ r
       → then r (λ k. then (or_fault (fault.UnknownAttribute i) (place_of t (get_or fields 1 [])))

@@ -49,10 +49,10 @@ place_of t name = cond (is_name name) (position (bytes_eq name) t.attributes) No
 -- ---- scale values
 
 -- nominal scales have names as values, the others numbers
-abbrev pub value_kind : Kind → FieldKind
-value_kind kind.Nominal = field.Name
-value_kind kind.Ordinal = field.Number
-value_kind kind.Interordinal = field.Number
+abbrev pub field_kind : Kind → FieldKind
+field_kind kind.Nominal = field.Name
+field_kind kind.Ordinal = field.Number
+field_kind kind.Interordinal = field.Number
 
 abbrev pub scale_value : Kind → Text → ScaleValue
 scale_value kind.Nominal text = value.Text text
@@ -94,7 +94,7 @@ few_names i names s = cond (nat_lt MAX_ATTRIBUTES (length names)) (Err (fault.To
 -- record i with this kind and this attribute, after attributes with these names
 abbrev pub plan_record_form : ValueTable → ℕ → List Text → Record → PlanRecord → Result PlanRecord PlanFault
 plan_record_form t i seen fields s =
-    unless (first_bad (value_kind s.kind) 3 (drop 2 fields)) (fault.BadScale i)
+    unless (first_bad (field_kind s.kind) 3 (drop 2 fields)) (fault.BadScale i)
     (unless (position_from (λ text. not (is_scalable s.kind text)) 0 (column t s.place)) (fault.BadValue i)
     (then (names_form i s.kind s.attribute seen s.values) (λ names. few_names i names s)))
 

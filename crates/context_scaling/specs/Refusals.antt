@@ -12,7 +12,7 @@ use Rattle.value_tables.specs.Form.{is_field, is_name}
 use Rattle.value_tables.specs.Numbers.{number_of}
 use Rattle.value_tables.specs.Values.{ValueTable, object_at, value_at}
 use Rattle.context_scaling.specs.Back.{plan_record_at}
-use Rattle.context_scaling.specs.PlanForm.{kind_of, scale_value, value_kind}
+use Rattle.context_scaling.specs.PlanForm.{kind_of, scale_value, field_kind}
 use Rattle.context_scaling.specs.Scaling.{PlanRecord, is_scalable, made_names, names_of}
 use Rattle.context_scaling.specs.declared.scales.Kind.{Kind}
 use Rattle.context_scaling.specs.declared.scales.Kind.TheVariants as kind
@@ -47,8 +47,8 @@ pub record IsRecordOf (t : ValueTable) (s : PlanRecord) (fields : Record) : Type
 pub record HasBadScale (kind : Kind) (fields : Record) (j : ℕ) : Type 0 where
   pub behind : 3 ≤ j
   pub inside : j ≤ length fields
-  pub bad : is_field (value_kind kind) (numbered_field fields j) ≡ false
-  pub first : (k : ℕ) → 3 ≤ k → k < j → is_field (value_kind kind) (numbered_field fields k) ≡ true
+  pub bad : is_field (field_kind kind) (numbered_field fields j) ≡ false
+  pub first : (k : ℕ) → 3 ≤ k → k < j → is_field (field_kind kind) (numbered_field fields k) ≡ true
 
 -- the scale compares numbers, and object r is the first whose value is neither empty nor a number
 pub record HasBadValue (t : ValueTable) (s : PlanRecord) (r : ℕ) : Type 0 where

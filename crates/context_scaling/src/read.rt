@@ -81,7 +81,7 @@ fn read_record(
 {
     let kind = kind_at(i, fields)?;
     let found = attribute_at(alloc, values, i, fields)?;
-    if let Some(j) = first_bad(value_kind(kind), fields, 2) {
+    if let Some(j) = first_bad(field_kind(kind), fields, 2) {
         return Err(PlanFault::BadScale(i, j));
     }
     if let Some(r) = first_unscalable(values, kind, found.place) {
@@ -154,8 +154,8 @@ fn attribute_at(
 }
 
 /// The kind of field that the scale values of this kind are.
-fn value_kind(kind: Kind) -> FieldKind
-    ensures { result ≡ form.value_kind kind }
+fn field_kind(kind: Kind) -> FieldKind
+    ensures { result ≡ form.field_kind kind }
 {
     match kind {
         Kind::Nominal => FieldKind::Name,
@@ -190,7 +190,7 @@ fn is_scalable(kind: Kind, text: &[u8]) -> bool
 fn scale_values(alloc: Global, kind: Kind, fields: &ByteRecord) -> Result<Vec<ScaleValue>, Memory>
     requires text { AllText (fields_of fields.now) }
     requires long { 2 ≤ length (fields_of fields.now) }
-    requires good { first_bad (form.value_kind kind) 3 (drop 2 (fields_of fields.now)) ≡ None }
+    requires good { first_bad (form.field_kind kind) 3 (drop 2 (fields_of fields.now)) ≡ None }
     ensures { IfOk result (λ values. values.items ≡ map (form.scale_value kind) (drop 2 (fields_of fields.now))) }
 {
     let mut values = Vec::new(alloc);
@@ -209,7 +209,7 @@ fn scale_value(
 ) -> Result<ScaleValue, Memory>
     requires text { AllText (fields_of fields.now) }
     requires place { place < length (fields_of fields.now) }
-    requires good { is_field (form.value_kind kind) (slice_index_or (fields_of fields.now) place []) ≡ true }
+    requires good { is_field (form.field_kind kind) (slice_index_or (fields_of fields.now) place []) ≡ true }
     ensures { IfOk result (λ value. value ≡ form.scale_value kind (slice_index_or (fields_of fields.now) place [])) }
 {
     match kind {

@@ -12,7 +12,7 @@ use Rattle.expert_wire.specs.Replies.{reply_text}
 use Rattle.expert_sessions.specs.declared.said.Said.{Said}
 use Rattle.expert_sessions.specs.declared.said.Said.TheVariants.{Replied, Bye, BadLine, BadWidth, NoMemory}
 use Rattle.expert_sessions.specs.Lines.{HasNoFeed, Exchange, lines_of, answers_text, said_line}
-use Rattle.expert_sessions.specs.Order.{OneRead, IsAnswered, AreReadings, ReadsInTurn}
+use Rattle.expert_sessions.specs.Order.{OneRead, IsAnswered, AreReadings, ReadsWhereAnswered}
 
 data State : Type 0 where
   New : State
@@ -84,7 +84,7 @@ module _ (t : NamedContext) (e : ℕ) (answer : Text) where
   second now [] one x = let two : Some 2 ≡ Some 1 = x.uncounted ∙ one in cc
   second now (r ∷ rs) one x = not_ready r.before (x.0.uncounted ∙ one) x.1
 
-  reads_on : ReadsInTurn left held reads faults faults t e New Answered → ⊥
+  reads_on : ReadsWhereAnswered left held reads faults faults t e New Answered → ⊥
   reads_on x = at x.0 x.1
     where
       at : (rs : List (OneRead State)) → AreReadings left held reads faults faults WasAnswered New Answered rs → ⊥

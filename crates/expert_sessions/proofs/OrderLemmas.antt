@@ -10,7 +10,7 @@ use Rattle.expert_sessions.specs.Lines.{HasNoFeed, lines_of, answers_text}
 use Rattle.expert_sessions.specs.Moves.{DeskProgress}
 use Rattle.expert_sessions.specs.Courses.{SendsText, ReadsOn, Goes}
 use Rattle.expert_sessions.specs.Order.{OneRead, end_state, ReadsNothing, ReadsOnce, AreReadings, ReadsOnlyWhere, AwaitsLine, ReadsForLine}
-use Rattle.expert_sessions.specs.Order.{IsAnswered, ReadsInTurn}
+use Rattle.expert_sessions.specs.Order.{IsAnswered, ReadsWhereAnswered}
 use Rattle.expert_sessions.proofs.MoveLemmas.{Moves-trans, Moves-equal}
 
 module _ {E : Type 0} (left held : E → Option Text) (reads : E → Option ℕ) (read_faults write_faults : E → ℕ) where
@@ -91,22 +91,22 @@ module _ {E : Type 0} (left held : E → Option Text) (reads : E → Option ℕ)
 
   -- ---- for a session
 
-  pub nothing-in_turn : (t : NamedContext) (e : ℕ) (a : E) → ReadsInTurn left held reads read_faults write_faults t e a a
+  pub nothing-in_turn : (t : NamedContext) (e : ℕ) (a : E) → ReadsWhereAnswered left held reads read_faults write_faults t e a a
   nothing-in_turn t e a = ([], ReadsNothing-nil a)
 
   pub greeted-first : (t : NamedContext) (e : ℕ) (a b : E) (text : Text) (result : Result (Unit {0}) Put)
       → SendsText (end_state left held reads read_faults write_faults a) (end_state left held reads read_faults write_faults b) text result
       → reads b ≡ reads a
-      → ReadsInTurn left held reads read_faults write_faults t e a b
+      → ReadsWhereAnswered left held reads read_faults write_faults t e a b
   greeted-first t e a b text result w same = written (IsAnswered left held reads read_faults write_faults t e a) a b text result w same
 
   -- behind lines that were answered, the end was read for one line
   pub line-in_turn : (t : NamedContext) (e : ℕ) (first a b : E) (c d : DeskProgress) (ahead : Text) (k : ℕ)
-      → ReadsInTurn left held reads read_faults write_faults t e first a
+      → ReadsWhereAnswered left held reads read_faults write_faults t e first a
       → Goes t e (end_state left held reads read_faults write_faults first)
       (end_state left held reads read_faults write_faults a) c d ahead k
       → ReadsForLine left held reads read_faults write_faults ahead a b
-      → ReadsInTurn left held reads read_faults write_faults t e first b
+      → ReadsWhereAnswered left held reads read_faults write_faults t e first b
   line-in_turn t e first a b c d ahead k x goes y =
       join (IsAnswered left held reads read_faults write_faults t e first)
       (AwaitsLine left held reads read_faults write_faults ahead a) line-awaited first a b x y

@@ -15,7 +15,7 @@ use Rattle.expert_gate.specs.Turns.{HasClosed}
 use Rattle.expert_gate.proofs.SeatLemmas.{EachSeat-length}
 use Rattle.expert_sessions.specs.declared.ended.Ended.{Ended}
 use Rattle.expert_sessions.specs.Moves.{DuplexState, TakesTurnsAtMost, end_state_of}
-use Rattle.expert_sessions.specs.Order.{ReadsInTurn}
+use Rattle.expert_sessions.specs.Order.{ReadsWhereAnswered}
 use Rattle.expert_sessions.specs.Talks.{HasTalked}
 use Rattle.expert_gate.specs.Seats.{EachSeat}
 use Rattle.expert_sessions.specs.Serving.{IsReady, HasSat, EachTalks, entries_alone}
@@ -119,7 +119,7 @@ module _ {E : Type 0} (left held : E → Option Text) (reads : E → Option ℕ)
             (subst (λ n. HasTalked t n lines (end_state old.end) (end_state new.end) (entries_alone [])
             (entries_alone new.pass.own) new.ended) numbers.0
             h.0.talk),
-        subst (λ n. ReadsInTurn left held reads read_faults write_faults t n old.end new.end) numbers.0 h.0.order,
+        subst (λ n. ReadsWhereAnswered left held reads read_faults write_faults t n old.end new.end) numbers.0 h.0.order,
         each_talks H (suc k) olds news numbers.1 (All-tail (λ p. own H p.number ≡ p.own) new.pass (passes news) own_is) h.1,
       )
 

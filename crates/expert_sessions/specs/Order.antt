@@ -62,5 +62,5 @@ module _ {E : Type 0} (left held : E → Option Text) (reads : E → Option ℕ)
     pub moves : Moves (end_state first) (end_state now) (lines_of served ++ rest) (greeting t e ++ answers_text t.attributes served)
 
   -- for a session, the end was read only where each whole line was answered
-  abbrev pub ReadsInTurn : NamedContext → ℕ → E → E → Type 0
-  ReadsInTurn t e first last = ReadsOnlyWhere (IsAnswered t e first) first last
+  abbrev pub ReadsWhereAnswered : NamedContext → ℕ → E → E → Type 0
+  ReadsWhereAnswered t e first last = ReadsOnlyWhere (IsAnswered t e first) first last

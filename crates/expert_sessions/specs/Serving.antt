@@ -5,7 +5,7 @@ use Rattle.fca_model.specs.Exploration.{SetEntry, own}
 use Rattle.explore_state.specs.History.{Opening}
 use Rattle.turn_lock.specs.Passes.{Lock, Belongs, IsFresh, badge}
 use Rattle.expert_sessions.specs.Moves.{DeskProgress, end_state_of}
-use Rattle.expert_sessions.specs.Order.{ReadsInTurn}
+use Rattle.expert_sessions.specs.Order.{ReadsWhereAnswered}
 use Rattle.expert_sessions.specs.Talks.{HasTalked}
 use Rattle.expert_sessions.specs.declared.ended.Ended.{Ended}
 use Rattle.expert_sessions.specs.declared.seats.SessionSeat.{SessionSeat}
@@ -34,7 +34,7 @@ module _ {E : Type 0} (left held : E → Option Text) (reads : E → Option ℕ)
     pub talk : HasTalked t new.pass.number lines (end_state_of left held read_faults write_faults old.end)
         (end_state_of left held read_faults write_faults new.end)
         (entries_alone []) (entries_alone new.pass.own) new.ended
-    pub order : ReadsInTurn left held reads read_faults write_faults t new.pass.number old.end new.end
+    pub order : ReadsWhereAnswered left held reads read_faults write_faults t new.pass.number old.end new.end
 
   -- expert k has talked over the first end, expert k + 1 over the next, and so on; their entries are their own ones of the
   -- history, none of them ran out of turns, and each end was read only where each whole line was answered
@@ -43,6 +43,6 @@ module _ {E : Type 0} (left held : E → Option Text) (reads : E → Option ℕ)
   EachTalks H k (a ∷ olds) (b ∷ news) (ended ∷ more) =
       HasTalked t k lines (end_state_of left held read_faults write_faults a) (end_state_of left held read_faults write_faults b)
       (entries_alone []) (entries_alone (own H k)) ended
-      × ReadsInTurn left held reads read_faults write_faults t k a b
+      × ReadsWhereAnswered left held reads read_faults write_faults t k a b
       × EachTalks H (suc k) olds news more
   EachTalks H k _ _ _ = ⊥

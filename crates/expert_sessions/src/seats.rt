@@ -5,7 +5,7 @@ ghost use Rattle.std.specs.Thread.{IsSync};
 ghost use Rattle.fca_model.specs.declared.TheConstants.{MAX_LINES};
 ghost use Rattle.turn_lock.specs.Passes.{Belongs, IsFresh, badge};
 ghost use Rattle.expert_sessions.specs.Moves.{end_state_of};
-ghost use Rattle.expert_sessions.specs.Order.{ReadsInTurn};
+ghost use Rattle.expert_sessions.specs.Order.{ReadsWhereAnswered};
 ghost use Rattle.expert_sessions.specs.Talks.{HasTalked};
 ghost use Rattle.expert_gate.specs.Seats.{EachSeat};
 ghost use Rattle.expert_sessions.specs.Serving.{IsReady, Suits, HasSat, entries_alone};
@@ -124,7 +124,7 @@ fn serve_one<R: Threads + Wait + Sync, E: Duplex>(
         (end_state_of E.Source.left E.Sink.held E.Source.faults E.Sink.faults end.old)
         (end_state_of E.Source.left E.Sink.held E.Source.faults E.Sink.faults end.new)
         (entries_alone []) (entries_alone pass.new.own) result }
-    ensures order { ReadsInTurn E.Source.left E.Sink.held E.Source.reads E.Source.faults E.Sink.faults
+    ensures order { ReadsWhereAnswered E.Source.left E.Sink.held E.Source.reads E.Source.faults E.Sink.faults
         terms.now.table pass.new.number end.old end.new }
 {
     let expert = pass.number();

@@ -6,7 +6,7 @@ ghost use Rattle.expert_gate.specs.Desks.{Works};
 ghost use Rattle.expert_sessions.specs.Moves.{TakesTurnsAtMost, end_state_of, desk_progress_of};
 ghost use Rattle.expert_sessions.specs.Talks.{HasTalked};
 ghost use Rattle.expert_sessions.specs.Courses.{Serves, Halts, HasServed};
-ghost use Rattle.expert_sessions.specs.Order.{ReadsForLine, ReadsInTurn};
+ghost use Rattle.expert_sessions.specs.Order.{ReadsForLine, ReadsWhereAnswered};
 
 use crate::ahead::ReadAhead;
 use crate::answer::answer;
@@ -34,7 +34,7 @@ pub fn session<D: Desk, E: Duplex>(
         (end_state_of E.Source.left E.Sink.held E.Source.faults E.Sink.faults end.old)
         (end_state_of E.Source.left E.Sink.held E.Source.faults E.Sink.faults end.new)
         (desk_progress_of (D.state desk.old)) (desk_progress_of (D.state desk.new)) result }
-    ensures order { ReadsInTurn E.Source.left E.Sink.held E.Source.reads E.Source.faults E.Sink.faults table.now expert end.old end.new }
+    ensures order { ReadsWhereAnswered E.Source.left E.Sink.held E.Source.reads E.Source.faults E.Sink.faults table.now expert end.old end.new }
     ensures turns { TakesTurnsAtMost (lines + 1) (D.state desk.old).left (D.state desk.new).left }
     ensures desk { Works (D.state desk.old) (D.state desk.new) }
     ensures width { D.attribute_count desk.new ≡ D.attribute_count desk.old }
@@ -69,7 +69,7 @@ fn serve_lines<D: Desk, E: Duplex>(
         (end_state_of E.Source.left E.Sink.held E.Source.faults E.Sink.faults end.old)
         (end_state_of E.Source.left E.Sink.held E.Source.faults E.Sink.faults end.new)
         (desk_progress_of (D.state desk.old)) (desk_progress_of (D.state desk.new)) result }
-    ensures order { ReadsInTurn E.Source.left E.Sink.held E.Source.reads E.Source.faults E.Sink.faults table.now expert end.old end.new }
+    ensures order { ReadsWhereAnswered E.Source.left E.Sink.held E.Source.reads E.Source.faults E.Sink.faults table.now expert end.old end.new }
     ensures desk { Works (D.state desk.old) (D.state desk.new) }
     ensures width { D.attribute_count desk.new ≡ D.attribute_count desk.old }
 {

@@ -10,9 +10,9 @@ pub record Ends (E : Type 0) : Type 0 where
 
 module _ {E : Type 0} where
   -- this end was the first to come, and nothing else changed
-  abbrev pub GivesFirst : Option (Ends E) → Option (Ends E) → E → Type 0
-  GivesFirst None new end = ⊤
-  GivesFirst (Some old) new end = (later : List E) × (old.to_come ≡ end ∷ later) × (new ≡ Some (record old { to_come = later }))
+  abbrev pub AcceptsFirst : Option (Ends E) → Option (Ends E) → E → Type 0
+  AcceptsFirst None new end = ⊤
+  AcceptsFirst (Some old) new end = (later : List E) × (old.to_come ≡ end ∷ later) × (new ≡ Some (record old { to_come = later }))
 
   -- with this end last among those given back, where there is room for one more; else it is dropped
   abbrev pub with_given : E → Ends E → Ends E

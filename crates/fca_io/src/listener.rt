@@ -3,7 +3,7 @@
 ghost use Rattle.std.specs.Prelude.{◌≡◌, ◌≤◌, ℕ, Bool, true, false, List, Option, is_some, Result, OnOk, OnErr, IfOk};
 ghost use Rattle.std.specs.Option.{option_map};
 ghost use Rattle.fca_io.specs.Faults.{Rose};
-ghost use Rattle.fca_io.specs.Links.{Ends, GivesFirst, with_given, IsWithinRoom, MayListenAt};
+ghost use Rattle.fca_io.specs.Links.{Ends, AcceptsFirst, with_given, IsWithinRoom, MayListenAt};
 
 use crate::outside::{Failed, Sink, Source};
 
@@ -57,7 +57,7 @@ pub trait Listener {
     fn accept(&mut self) -> Result<Self::End, Failed>
         requires { listens self.old ≡ true }
 
-        ensures first { IfOk result (λ end. GivesFirst (ends self.old) (ends self.new) end) }
+        ensures first { IfOk result (λ end. AcceptsFirst (ends self.old) (ends self.new) end) }
         ensures none { OnErr result (ends self.new ≡ ends self.old) }
         ensures within { IsWithinRoom (ends self.old) }
         ensures same { (listens self.new ≡ listens self.old) × (listens_at self.new ≡ listens_at self.old) }

@@ -8,7 +8,7 @@ use Rattle.lectic_concepts.specs.Branches.{branch}
 use Rattle.lectic_concepts.specs.Steps.{IsStep, IsFurther, AreLeft, HasDescended, branch_of}
 use Rattle.lectic_concepts.specs.declared.children.Step.{Step}
 use Rattle.lectic_concepts.specs.declared.children.Descent.{Descent}
-use Rattle.lectic_concepts.specs.declared.children.Descent.TheVariants.{End, Whole, Below}
+use Rattle.lectic_concepts.specs.declared.children.Descent.TheVariants.{End, WholeBranch, Below}
 
 -- ---- what is left
 
@@ -58,9 +58,9 @@ module _ (n : ℕ) {W : ℕ} (All old new : List Set) (steps : List (Step W)) (s
   pub walk_none : (after : Step W) → HasDescended step.rows.width old new step after End → IsWalk n All steps new
   walk_none after h = subst (AreLeft n All (reverse steps)) (sym h.0) (left_none n All step (reverse steps) old left h.1)
 
-  pub walk_whole : (after : Step W) → HasDescended step.rows.width old new step after Whole → IsWalk n All (steps ++ after ∷ []) new
+  pub walk_whole : (after : Step W) → HasDescended step.rows.width old new step after WholeBranch → IsWalk n All (steps ++ after ∷ []) new
   walk_whole after h =
-      let d : HasDescended n old new step after Whole = at_all Whole after h in
+      let d : HasDescended n old new step after WholeBranch = at_all WholeBranch after h in
       subst (AreLeft n All (reverse (steps ++ after ∷ []))) (sym d.1.1)
       (subst (λ (xs : List (Step W)). AreLeft n All xs (old ++ d.1.0)) (sym (reverse-append steps (after ∷ [])))
       (left_further n All step after (reverse steps) old d.1.0 left d.0 d.1.2))

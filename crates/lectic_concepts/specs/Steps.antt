@@ -6,7 +6,7 @@ use Rattle.lectic_concepts.specs.Branches.{branch, AreWitnesses}
 use Rattle.lectic_concepts.specs.declared.children.Step.{Step}
 use Rattle.lectic_concepts.specs.declared.children.Child.{Child}
 use Rattle.lectic_concepts.specs.declared.children.Descent.{Descent}
-use Rattle.lectic_concepts.specs.declared.children.Descent.TheVariants.{End, Whole, Below}
+use Rattle.lectic_concepts.specs.declared.children.Descent.TheVariants.{End, WholeBranch, Below}
 
 -- the step is at an intent of n attributes, with what its children need
 pub record IsStep (n : ℕ) {W : ℕ} (step : Step W) : Type 0 where
@@ -49,7 +49,7 @@ pub record IsFurther (n : ℕ) {W : ℕ} (old new : Step W) : Type 0 where
 -- what was listed behind `old`, and what is left
 abbrev pub HasDescended : ℕ → List Set → List Set → {W : ℕ} → Step W → Step W → Descent W → Type 0
 HasDescended n old new before after End = (new ≡ old) × (branch_of before before.from ≡ branch_of before before.end)
-HasDescended n old new before after Whole =
+HasDescended n old new before after WholeBranch =
     IsFurther n before after × ((Xs : List Set) × (new ≡ old ++ Xs) × (branch_of before after.end ≡ branch_of before before.end ++ Xs))
 HasDescended n old new before after (Below step) =
     IsFurther n before after × IsStep n step × (step.from ≡ after.end + 1) × (new ≡ old ++ branch_of step step.end)

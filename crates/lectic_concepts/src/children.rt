@@ -42,7 +42,7 @@ pub(crate) enum Descent<const W: usize> {
     /// No child is left.
     End,
     /// There was one, and it was listed with all intents below it.
-    Whole,
+    WholeBranch,
     /// There was one, and it was listed alone. This step has those below it.
     Below(Step<W>),
 }

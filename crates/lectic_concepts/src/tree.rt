@@ -100,7 +100,7 @@ fn add_branch<const W: usize>(
     while let Some(mut step) = steps.pop() {
         match next_step(alloc, all, &mut step, supports)? {
             Descent::End => {}
-            Descent::Whole => steps.push(step)?,
+            Descent::WholeBranch => steps.push(step)?,
             Descent::Below(below) => {
                 steps.push(step)?;
                 steps.push(below)?;
@@ -135,7 +135,7 @@ fn next_step<const W: usize>(
     let from = child.attribute + 1;
     if lacks_few(&child.intent, from) {
         add_few(alloc, all, &step.rows, &child.intent, from, supports)?;
-        return Ok(Descent::Whole);
+        return Ok(Descent::WholeBranch);
     }
     all.push(child.intent)?;
     let below = step_below(alloc, step, &child)?;

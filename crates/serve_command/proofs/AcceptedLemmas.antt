@@ -4,7 +4,7 @@ use Rattle.std.proofs.Common.{◌≡◌, ◌∙◌, ◌<◌, ◌≤◌, ◌+◌,
 use Rattle.std.proofs.Common.{sym, ap, subst, append_assoc, append-nil, arith}
 use Rattle.std.specs.Prelude.{option_map}
 use Rattle.std.proofs.lemmas.Bool.{lt-ltb}
-use Rattle.fca_io.specs.Links.{Ends, GivesFirst, with_given, IsWithinRoom}
+use Rattle.fca_io.specs.Links.{Ends, AcceptsFirst, with_given, IsWithinRoom}
 use Rattle.command_io.specs.declared.stop.Stop.{Stop}
 use Rattle.command_io.specs.declared.stop.Stop.TheVariants.{ListenerFault, Memory}
 use Rattle.serve_command.specs.Accepted.{TookFirst, GaveBack, TookAndGave, HasRoomFor, FallsShort}
@@ -14,11 +14,11 @@ module _ {E : Type 0} where
   TookFirst-none None = tt
   TookFirst-none (Some old) = (old.to_come, refl, refl)
 
-  pub TookFirst-more : (a b c : Option (Ends E)) (taken : List E) (end : E) → TookFirst a b taken → GivesFirst b c end
+  pub TookFirst-more : (a b c : Option (Ends E)) (taken : List E) (end : E) → TookFirst a b taken → AcceptsFirst b c end
       → TookFirst a c (taken ++ end ∷ [])
   TookFirst-more None b c taken end took gives = tt
   TookFirst-more (Some old) b c taken end took gives =
-      let P : Option (Ends E) → Type 0 = λ x. GivesFirst x c end in
+      let P : Option (Ends E) → Type 0 = λ x. AcceptsFirst x c end in
       let next = subst P took.2 gives in
       (next.0, took.1 ∙ ap (λ l. taken ++ l) next.1 ∙ sym (append_assoc taken (end ∷ []) next.0), next.2)
 

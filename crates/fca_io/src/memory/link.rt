@@ -5,7 +5,7 @@ ghost use Rattle.std.specs.Prelude.{IsErr, IsTrue};
 ghost use Rattle.std.specs.Option.{option_map};
 ghost use Rattle.fca_io.specs.Faults.{Rose};
 ghost use Rattle.fca_io.specs.Forms.{failure_plan_of, fails_next, after_call, with_fault};
-ghost use Rattle.fca_io.specs.Links.{GivesFirst, with_given, IsWithinRoom};
+ghost use Rattle.fca_io.specs.Links.{AcceptsFirst, with_given, IsWithinRoom};
 
 use super::end::MemoryEnd;
 use super::plan::FailingCalls;
@@ -124,7 +124,7 @@ impl Listener for MemoryLink {
         ensures failing { IsTrue (fails_next self.old.plan) → self.new.plan ≡ after_call self.old.plan }
         ensures no_more { fails_next self.old.plan ≡ false → OnErr result (self.new.plan ≡ with_fault (after_call self.old.plan)) }
 
-        ensures first { IfOk result (λ end. GivesFirst (Some self.old.ends) (Some self.new.ends) end) }
+        ensures first { IfOk result (λ end. AcceptsFirst (Some self.old.ends) (Some self.new.ends) end) }
         ensures none { OnErr result (self.new.ends ≡ self.old.ends) }
         ensures within { IsWithinRoom (Some self.old.ends) }
         ensures same { (self.new.listens ≡ self.old.listens) × (self.new.address ≡ self.old.address) }

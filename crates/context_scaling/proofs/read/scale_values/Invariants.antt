@@ -8,5 +8,5 @@ abbrev pub invariant-loop-place : goal.invariant-loop-place
 invariant-loop-place l = record {
   values : l.values.items ++ map (form.scale_value l.kind) (drop l.place (fields_of l.fields)) ≡ map (form.scale_value l.kind)
       (drop 2 (fields_of l.fields));
-  good : first_bad (form.value_kind l.kind) (l.place + 1) (drop l.place (fields_of l.fields)) ≡ None;
+  good : first_bad (form.field_kind l.kind) (l.place + 1) (drop l.place (fields_of l.fields)) ≡ None;
 }

@@ -1,6 +1,6 @@
 use Rattle.std.proofs.Common.{rules}
 use Rattle.expert_sessions.specs.Moves.{end_state_of}
-use Rattle.expert_sessions.specs.Order.{ReadsInTurn}
+use Rattle.expert_sessions.specs.Order.{ReadsWhereAnswered}
 use Rattle.expert_sessions.proofs.ServingLemmas.{same_badge, at_number, at_pass}
 use Rattle.expert_sessions.proofs.seats.serve_one.Goals as goal
 
@@ -17,7 +17,7 @@ returns-clause-talk g c =
 pub returns-clause-order : goal.returns-clause-order
 returns-clause-order g c =
     let place = c.session.ensures.desk.same.place in
-    at_number (λ n. ReadsInTurn g.E.Source.left g.E.Sink.held g.E.Source.reads g.E.Source.faults g.E.Sink.faults c.args.terms.now.table n
+    at_number (λ n. ReadsWhereAnswered g.E.Source.left g.E.Sink.held g.E.Source.reads g.E.Source.faults g.E.Sink.faults c.args.terms.now.table n
     c.args.end.now c.session.new.end)
     c.number-expert.result c.args.pass.now c.session.new.desk.pass.now c.pass-1.given.0 c.session.ensures.order
     c.session.ensures.desk.same.lock c.number-expert.ensures (search rules)

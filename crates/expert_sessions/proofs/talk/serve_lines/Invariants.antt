@@ -3,7 +3,7 @@ use Rattle.std.proofs.Common.{◌≡◌}
 use Rattle.expert_gate.specs.Desks.{Works}
 use Rattle.expert_sessions.specs.Moves.{end_state_of, desk_progress_of}
 use Rattle.expert_sessions.specs.Courses.{Goes}
-use Rattle.expert_sessions.specs.Order.{ReadsInTurn}
+use Rattle.expert_sessions.specs.Order.{ReadsWhereAnswered}
 use Rattle.expert_sessions.proofs.talk.serve_lines.Given as goal
 
 abbrev pub invariant-loop-count : goal.invariant-loop-count
@@ -14,7 +14,7 @@ invariant-loop-count g l = record {
       (desk_progress_of (g.D.Desk.state l.fn.desk))
       (desk_progress_of (g.D.Desk.state l.desk))
       l.ahead l._count;
-  order : ReadsInTurn g.E.Source.left g.E.Sink.held g.E.Source.reads g.E.Source.faults g.E.Sink.faults l.table l.expert l.fn.end l.end;
+  order : ReadsWhereAnswered g.E.Source.left g.E.Sink.held g.E.Source.reads g.E.Source.faults g.E.Sink.faults l.table l.expert l.fn.end l.end;
   desk : Works (g.D.Desk.state l.fn.desk) (g.D.Desk.state l.desk);
   attributes : g.D.Wide.attributes l.desk ≡ g.D.Wide.attributes l.fn.desk;
 }

@@ -9,7 +9,7 @@ use Rattle.lattice_covers.proofs.chain.allowed_closure.Goals as goal
 
 pub returns-then-implies-clause-closed : goal.returns-then-implies-clause-closed
 returns-then-implies-clause-closed g c =
-    not_within_at (closure c.args.rows.now (set c.args.link.now.intent c.args.i true)) c.args.allowed.now c.args.link.now.further
+    not_within_at (closure c.args.rows.now (set c.args.link.now.intent c.args.i true)) c.args.allowed.now c.args.link.now.last_disallowed
     (c.implies.ensures c.if-implies.true) (c.lacks.ensures.lacks c.if-lacks.true)
 
 pub returns-in-None-clause-closed : goal.returns-in-None-clause-closed

@@ -59,9 +59,9 @@ loop-step-smaller-in-Continue-branch-6 g c =
     let All : List Set = c.args.all.now.items ++ branch_of first first.from in
     let steps : List (Step g.row.W) = c.pop.new.self.items in
     let walk = subst (λ (xs : List (Step g.row.W)). IsWalk n All xs c.loop-step.all.items) c.in-Some.ensures.items c.loop-step.invariant in
-    let d = rw c.in-Whole.is at c.in_ok-next_step.ensures in
+    let d = rw c.in-WholeBranch.is at c.in_ok-next_step.ensures in
     rooms_tried n (λ (s : Step g.row.W). s.from) (λ (s : Step g.row.W). s.end) steps c.in-Some.step c.in-Some.ensures.items
-    c.next_step.new.step c.in_ok-push-in-Whole.ensures.items d.0.from refl (omega (arith, d.0.from, d.0.step.order)) d.0.less
+    c.next_step.new.step c.in_ok-push-in-WholeBranch.ensures.items d.0.from refl (omega (arith, d.0.from, d.0.step.order)) d.0.less
     (walk_step n All c.loop-step.all.items c.next_step.new.all.items steps c.in-Some.step walk).inside
 
 pub loop-step-preserved-in-Continue-branch-6 : goal.loop-step-preserved-in-Continue-branch-6
@@ -71,9 +71,9 @@ loop-step-preserved-in-Continue-branch-6 g c =
     let All : List Set = c.args.all.now.items ++ branch_of first first.from in
     let steps : List (Step g.row.W) = c.pop.new.self.items in
     let walk = subst (λ (xs : List (Step g.row.W)). IsWalk n All xs c.loop-step.all.items) c.in-Some.ensures.items c.loop-step.invariant in
-    subst (λ (xs : List (Step g.row.W)). IsWalk n All xs c.next_step.new.all.items) (sym c.in_ok-push-in-Whole.ensures.items)
+    subst (λ (xs : List (Step g.row.W)). IsWalk n All xs c.next_step.new.all.items) (sym c.in_ok-push-in-WholeBranch.ensures.items)
     (walk_whole n All c.loop-step.all.items c.next_step.new.all.items steps c.in-Some.step walk c.next_step.new.step
-    (rw c.in-Whole.is at c.in_ok-next_step.ensures))
+    (rw c.in-WholeBranch.is at c.in_ok-next_step.ensures))
 
 pub loop-step-smaller : goal.loop-step-smaller
 loop-step-smaller g c =

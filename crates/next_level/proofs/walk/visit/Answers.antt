@@ -33,7 +33,7 @@ returns-clause-left g c = λ e.
     (c.in_ok-count_visit.ensures.listed c.args.rules.now.list.members c.args.indexed.now
     (before c.args.from c.args.a.now) c.requires.visit.listed) in
     let lower = enter_lower entered c.fall_to.new.self.bound c.fall_to.new.self.members.items
-    (c.in_ok-fall_to.ensures.listed c.args.rules.now.list.members c.args.indexed.now (before c.args.from c.args.a.now) entered.level)
+    (c.in_ok-fall_to.ensures.listed c.args.rules.now.list.members c.args.indexed.now (before c.args.from c.args.a.now) entered.listed)
     in
     enter_left lower (enter_open lower c.requires.closed (sym c.eq.ensures ∙ c.if-eq.false)
     (omega (arith, c.size-count.ensures.size, c.in_ok-fall_to.ensures.at_least)) _ c.in_ok-push.ensures.items)
@@ -44,7 +44,7 @@ returns-clause-done g c = λ e.
     (c.in_ok-count_visit.ensures.listed c.args.rules.now.list.members c.args.indexed.now
     (before c.args.from c.args.a.now) c.requires.visit.listed) in
     let lower = enter_lower entered c.fall_to.new.self.bound c.fall_to.new.self.members.items
-    (c.in_ok-fall_to.ensures.listed c.args.rules.now.list.members c.args.indexed.now (before c.args.from c.args.a.now) entered.level)
+    (c.in_ok-fall_to.ensures.listed c.args.rules.now.list.members c.args.indexed.now (before c.args.from c.args.a.now) entered.listed)
     in
     let at_most : c.fall_to.new.self.bound ≤ c.size-count.result = ltb-false c.size-count.result c.fall_to.new.self.bound e in
     enter_done lower (enter_open lower c.requires.closed (sym c.eq.ensures ∙ c.if-eq.false)
