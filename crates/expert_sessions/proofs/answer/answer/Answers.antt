@@ -93,7 +93,7 @@ returns-in-Ok-Draw-clause-spent g c =
 
 pub returns-in-Ok-Draw-clause-desk : goal.returns-in-Ok-Draw-clause-desk
 returns-in-Ok-Draw-clause-desk g c =
-    plays-works (g.D.Wide.attributes c.args.desk.now) (Draw (g.D.Desk.state c.args.desk.now).number) (g.D.Desk.state c.args.desk.now)
+    plays-works (g.D.Wide.attribute_count c.args.desk.now) (Draw (g.D.Desk.state c.args.desk.now).number) (g.D.Desk.state c.args.desk.now)
     (g.D.Desk.state c.draw.new.self)
     c.draw.result c.draw.ensures.turn
 
@@ -113,7 +113,7 @@ returns-in-Ok-Confirm-clause-spent g c =
 
 pub returns-in-Ok-Confirm-clause-desk : goal.returns-in-Ok-Confirm-clause-desk
 returns-in-Ok-Confirm-clause-desk g c =
-    plays-works (g.D.Wide.attributes c.args.desk.now) (Confirm (g.D.Desk.state c.args.desk.now).number) (g.D.Desk.state c.args.desk.now)
+    plays-works (g.D.Wide.attribute_count c.args.desk.now) (Confirm (g.D.Desk.state c.args.desk.now).number) (g.D.Desk.state c.args.desk.now)
     (g.D.Desk.state c.confirm.new.self)
     c.confirm.result c.confirm.ensures.turn
 
@@ -132,7 +132,7 @@ returns-in-Ok-Row-clause-spent g c =
 
 pub returns-in-Ok-Row-clause-desk : goal.returns-in-Ok-Row-clause-desk
 returns-in-Ok-Row-clause-desk g c =
-    plays-works (g.D.Wide.attributes c.args.desk.now) (Row (g.D.Desk.state c.args.desk.now).number c.in-Ok-Row.name c.in-Ok-Row.row)
+    plays-works (g.D.Wide.attribute_count c.args.desk.now) (Row (g.D.Desk.state c.args.desk.now).number c.in-Ok-Row.name c.in-Ok-Row.row)
     (g.D.Desk.state c.args.desk.now) (g.D.Desk.state c.row.new.self)
     c.row.result c.row.ensures.turn
 
@@ -151,7 +151,7 @@ returns-in-Ok-Leave-clause-spent g c =
 
 pub returns-in-Ok-Leave-clause-desk : goal.returns-in-Ok-Leave-clause-desk
 returns-in-Ok-Leave-clause-desk g c =
-    plays-works (g.D.Wide.attributes c.args.desk.now) (Leave (g.D.Desk.state c.args.desk.now).number) (g.D.Desk.state c.args.desk.now)
+    plays-works (g.D.Wide.attribute_count c.args.desk.now) (Leave (g.D.Desk.state c.args.desk.now).number) (g.D.Desk.state c.args.desk.now)
     (g.D.Desk.state c.leave.new.self)
     c.leave.result c.leave.ensures.turn
 

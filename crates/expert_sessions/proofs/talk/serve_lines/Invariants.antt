@@ -16,5 +16,5 @@ invariant-loop-count g l = record {
       l.ahead l._count;
   order : ReadsWhereAnswered g.E.Source.left g.E.Sink.held g.E.Source.reads g.E.Source.faults g.E.Sink.faults l.table l.expert l.fn.end l.end;
   desk : Works (g.D.Desk.state l.fn.desk) (g.D.Desk.state l.desk);
-  attributes : g.D.Wide.attributes l.desk ≡ g.D.Wide.attributes l.fn.desk;
+  attributes : g.D.Wide.attribute_count l.desk ≡ g.D.Wide.attribute_count l.fn.desk;
 }

@@ -91,18 +91,18 @@ returns-in_default-clause-desk g c = Works-nil (g.D.Desk.state c.args.desk.now)
 
 pub returns-in-Ok-leave-clause-desk : goal.returns-in-Ok-leave-clause-desk
 returns-in-Ok-leave-clause-desk g c =
-    Works-trans c.serve_lines.ensures.desk (plays-works (g.D.Wide.attributes c.serve_lines.new.desk)
+    Works-trans c.serve_lines.ensures.desk (plays-works (g.D.Wide.attribute_count c.serve_lines.new.desk)
     (Leave (g.D.Desk.state c.serve_lines.new.desk).number) (g.D.Desk.state c.serve_lines.new.desk) (g.D.Desk.state c.leave.new.self)
     c.leave.result c.leave.ensures.turn)
 
 pub returns-in-Err-Spent-clause-desk : goal.returns-in-Err-Spent-clause-desk
 returns-in-Err-Spent-clause-desk g c =
-    Works-trans c.serve_lines.ensures.desk (plays-works (g.D.Wide.attributes c.serve_lines.new.desk)
+    Works-trans c.serve_lines.ensures.desk (plays-works (g.D.Wide.attribute_count c.serve_lines.new.desk)
     (Leave (g.D.Desk.state c.serve_lines.new.desk).number) (g.D.Desk.state c.serve_lines.new.desk) (g.D.Desk.state c.leave.new.self)
     c.leave.result c.leave.ensures.turn)
 
 pub returns-clause-desk : goal.returns-clause-desk
 returns-clause-desk g c =
-    Works-trans c.serve_lines.ensures.desk (plays-works (g.D.Wide.attributes c.serve_lines.new.desk)
+    Works-trans c.serve_lines.ensures.desk (plays-works (g.D.Wide.attribute_count c.serve_lines.new.desk)
     (Leave (g.D.Desk.state c.serve_lines.new.desk).number) (g.D.Desk.state c.serve_lines.new.desk) (g.D.Desk.state c.leave.new.self)
     c.leave.result c.leave.ensures.turn)

@@ -46,7 +46,7 @@ returns-else-waits_for_nobody g c =
     let waits : waits_for_nobody command ≡ false = sym c.waits_for_nobody.ensures ∙ c.if-waits_for_nobody.false in
     let Ran : Option Command → Type 0 = λ call. HasRun end_sides call (outside s input link) (outside s' input link')
     (moment g.K.Sink.held g.K.Sink.faults c.args.out.now) (moment g.K.Sink.held g.K.Sink.faults c.conclude_command.new.out)
-    (moment g.E.Sink.held g.E.Sink.faults c.args.err.now) (moment g.E.Sink.held g.E.Sink.faults c.conclude_command.new.err) c.finish.result in
+    (moment g.E.Sink.held g.E.Sink.faults c.args.err.now) (moment g.E.Sink.held g.E.Sink.faults c.conclude_command.new.err) c.conclude_command.result in
     let output = c.waiting_output-output.result in
     record {
       ran = subst Ran (sym c.in-Ok-Some.field-0-is ∙ c.in-Ok-Some.ensures.command)
