@@ -28,7 +28,7 @@ fn listen_at_free_port<L: Listener>(alloc: Global, link: &mut L) -> Option<Strin
     None
 }
 
-/// The next bytes that an expert is exchange_line who says the line.
+/// The next bytes that an expert is told who says the line.
 fn exchange_line<const N: usize>(stream: &mut TcpStream, line: &[u8]) -> io::Result<[u8; N]> {
     stream.write_all(line)?;
     let mut bytes = [0; N];
@@ -36,7 +36,7 @@ fn exchange_line<const N: usize>(stream: &mut TcpStream, line: &[u8]) -> io::Res
     Ok(bytes)
 }
 
-/// What two experts are exchange_line who both draw, before the first of them quits and the second draws again.
+/// What two experts are told who both draw, before the first of them quits and the second draws again.
 fn draw_and_quit(mut first: TcpStream, mut second: TcpStream) -> io::Result<[[u8; 63]; 2]> {
     let asked = [
         exchange_line(&mut first, b"draw\n")?,
