@@ -16,7 +16,7 @@ use Rattle.turn_lock.specs.declared.fault.TurnFault.TheVariants.{Spent as NoTurn
 use Rattle.turn_lock.specs.declared.fault.TurnFault.TheVariants as fault
 use Rattle.expert_gate.specs.Turns.{MakesTurn}
 use Rattle.oracle_expert.specs.declared.expert.Answer.{Answer}
-use Rattle.oracle_expert.specs.Runs.{RunsFrom, RunsTo, IsTurn, Stops, IsUnanswered, StopsAtDone, question_after, is_done, ends_done}
+use Rattle.oracle_expert.specs.Runs.{RunsFrom, RunsTo, IsDueEntry, Stops, IsUnanswered, StopsAtDone, question_after, is_done, ends_done}
 use Rattle.expert_panel.specs.declared.end.SeatEnd.TheVariants as end
 use Rattle.expert_panel.specs.Passes.{HasMade, TookTurns}
 use Rattle.expert_panel.specs.Turns.{IsPlayed, IsRefusedTurn, IsStopped}
@@ -116,8 +116,8 @@ module _ {X M : Type 0} (width_of : X → ℕ) (memory_of : X → M) (Answering 
       abbrev entry : SetEntry
       entry = record { event = played.event; reply = reply }
 
-      its_turn : IsTurn Answering Learning p.number due (memory_of expert) entry (memory_of next)
-      its_turn = subst (λ (n : ℕ). IsTurn Answering Learning n due (memory_of expert) entry (memory_of next))
+      its_turn : IsDueEntry Answering Learning p.number due (memory_of expert) entry (memory_of next)
+      its_turn = subst (λ (n : ℕ). IsDueEntry Answering Learning n due (memory_of expert) entry (memory_of next))
           (ap (λ (b : Badge Opening). b.number) a.pass.same) played.entry
 
       one_more : TookTurns p (a.entries ++ entry ∷ []) r

@@ -36,7 +36,7 @@ use Rattle.expert_panel.specs.declared.seat.Seat.{Seat}
 use Rattle.expert_panel.specs.declared.end.SeatEnd.{SeatEnd}
 use Rattle.expert_panel.specs.declared.end.SeatEnd.TheVariants.{Done, Spent, Memory}
 use Rattle.expert_panel.specs.Seats.{IsEnd}
-use Rattle.expert_panel.specs.Explorations.{IsOraclesShare, EachNumbered, HasFewRows, most_turns, most_turns_between, IsWithinTurns}
+use Rattle.expert_panel.specs.Explorations.{IsOraclesShare, EachNumbered, HasFewRows, most_turns, most_turns_between, IsWithinMostTurns}
 use Rattle.expert_panel.specs.Explorations.{HasMadeAtMost, SeatsTurns, HasAgreed, HasEvenRows}
 use Rattle.expert_panel.proofs.ShareLemmas.{Run}
 
@@ -66,7 +66,7 @@ module _ (o : Opening) (H : List SetEntry) (turns : ℕ) (oracles : List Recall)
       let within = slice_get_within oracles k oracle at in
       and_from (leb 1 (k + 1)) (leb (k + 1) MAX_EXPERTS) (le-leb 1 (k + 1) (omega arith)) (le-leb (k + 1) MAX_EXPERTS (omega arith))
 
-  pub within_turns : EachNumbered (IsWithinTurns H) oracles
+  pub within_turns : EachNumbered (IsWithinMostTurns H) oracles
   within_turns = λ k oracle at.
       let share = shares k oracle at in
       subst (λ (cs : List (Option ℕ)). length (own H (k + 1)) ≤ 2 * answers_recorded_in H + dropped_count cs + 1) (sym share.conflicts)

@@ -56,8 +56,8 @@ abbrev pub most_turns : List SetEntry → Recall → ℕ
 most_turns H oracle = 2 * answers_recorded_in H + dropped_count oracle.conflicts + 1
 
 -- the entries of expert e are no more
-abbrev pub IsWithinTurns : List SetEntry → ℕ → Recall → Type 0
-IsWithinTurns H e oracle = length (own H e) ≤ most_turns H oracle
+abbrev pub IsWithinMostTurns : List SetEntry → ℕ → Recall → Type 0
+IsWithinMostTurns H e oracle = length (own H e) ≤ most_turns H oracle
 
 -- the seat made at most so many turns; and one more if memory ran out in its last turn
 abbrev pub HasMadeAtMost : ℕ → Seat Recall → Seat Recall → Type 0

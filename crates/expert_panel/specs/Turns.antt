@@ -8,7 +8,7 @@ use Rattle.turn_lock.specs.declared.fault.TurnFault.{TurnFault}
 use Rattle.turn_lock.specs.declared.fault.TurnFault.TheVariants.{Spent, Memory}
 use Rattle.expert_gate.specs.Turns.{RepliesTo, Looks}
 use Rattle.oracle_expert.specs.declared.expert.Answer.{Answer}
-use Rattle.oracle_expert.specs.Runs.{IsTurn, Stops, IsUnanswered}
+use Rattle.oracle_expert.specs.Runs.{IsDueEntry, Stops, IsUnanswered}
 
 module _ (o : Opening) where
   -- the pass after a turn was refused: none was left, or memory ran out in it, and it made no entry
@@ -22,7 +22,7 @@ module _ {M : Type 0} (Answering : M → Rule → Answer → M → Type 0) (Lear
       (new : M) : Type 0 where
     pub event : SetEvent
     pub turn : RepliesTo o p event reply q
-    pub entry : IsTurn Answering Learning p.number due old (record { event = event; reply = reply }) new
+    pub entry : IsDueEntry Answering Learning p.number due old (record { event = event; reply = reply }) new
 
   -- no turn was made though one was left, since the expert ran out of memory for its answer
   abbrev pub IsSilent : Option Rule → PassModel Opening SetEntry → M → TurnFault → PassModel Opening SetEntry → M → Type 0

@@ -11,7 +11,7 @@ ghost use Rattle.turn_lock.specs.Passes.{badge, roll, IsFresh};
 ghost use Rattle.oracle_expert.specs.Oracles.{untold, no_conflict};
 ghost use Rattle.oracle_expert.specs.Intents.{HasIntentsOf, are_intents};
 ghost use Rattle.oracle_expert.specs.Runs.{ends_done};
-ghost use Rattle.expert_panel.specs.Explorations.{IsOraclesShare, EachNumbered, HasEnded, HasFewRows, IsWithinTurns, HasAgreed};
+ghost use Rattle.expert_panel.specs.Explorations.{IsOraclesShare, EachNumbered, HasEnded, HasFewRows, IsWithinMostTurns, HasAgreed};
 ghost use Rattle.expert_panel.specs.Explorations.{HasEvenRows, ended_spent, is_out_of_memory};
 
 use crate::end::SeatEnd;
@@ -70,7 +70,7 @@ pub fn explore_with_oracles<R: Threads + Wait + Sync>(
     ensures spent { IfOk result (λ r. (r.spent ≡ true)
         ↔ ((e : ℕ) × (1 ≤ e) × (e ≤ vec_len experts) × (ends_done (own r.explore.journal e) ≡ false))) }
     ensures finished { IfOk result (λ r. r.spent ≡ false → open_of r.explore ≡ []) }
-    ensures turns { IfOk result (λ r. EachNumbered (IsWithinTurns r.explore.journal) r.oracles.items) }
+    ensures bound { IfOk result (λ r. EachNumbered (IsWithinMostTurns r.explore.journal) r.oracles.items) }
     ensures unspent { IfOk result (λ r. turns ≡ MAX_TURNS → explore.opening.table.context.width ≤ MAX_SURVEYED → r.spent ≡ false) }
     ensures agreed { IfOk result (λ r. (C : Context) → All (λ expert. HasIntentsOf C expert.context) experts.items
         → are_intents C explore.opening.table.context.rows ≡ true → rows_respect explore.opening.settings.known C ≡ true

@@ -18,7 +18,7 @@ pub use Rattle.text_pieces.proofs.LineLemmas.{no_break-append}
 pub use Rattle.text_pieces.proofs.NumeralLemmas.{no_break-decimal}
 use Rattle.text_pieces.proofs.LineLemmas.{lines-line, no_break-faultless}
 use Rattle.expert_wire.specs.Texts.{line_end, ordinal, pattern, names_of, comma_tail, names_in_braces, braces_text, arrow_text, full_text}
-use Rattle.expert_wire.specs.Replies.{attribute_name, numbered_row, numbered_rule, reply_text}
+use Rattle.expert_wire.specs.Replies.{attribute_text, numbered_row, numbered_rule, reply_text}
 use Rattle.expert_wire.specs.Patterns.{is_name}
 use Rattle.expert_wire.specs.Lines.{numbered_lines}
 use Rattle.expert_wire.proofs.LineLemmas.{numbered_lines-skipped}
@@ -79,7 +79,7 @@ no_break-rule attributes place i h =
     no_break-append (ordinal place) (codes " " ++ full_text attributes i) (no_break-decimal (place + 1)) (no_break-full attributes i h)
 
 no_break-attribute : (attributes : List Text) (m : ℕ) → list_all is_name attributes ≡ true
-    → list_any is_line_break (attribute_name attributes m) ≡ false
+    → list_any is_line_break (attribute_text attributes m) ≡ false
 no_break-attribute [] m h = refl
 no_break-attribute (name ∷ names) zero h = no_break-name name (and_parts (is_name name) (list_all is_name names) h).0
 no_break-attribute (name ∷ names) (suc m) h = no_break-attribute names m (and_parts (is_name name) (list_all is_name names) h).1
@@ -94,7 +94,7 @@ no_break-reply attributes (Taken place) h = no_break-decimal (place + 1)
 no_break-reply attributes Left h = refl
 no_break-reply attributes NotHeld h = refl
 no_break-reply attributes (Misses m) h =
-    no_break-append (ordinal m) (codes " " ++ attribute_name attributes m) (no_break-decimal (m + 1)) (no_break-attribute attributes m h)
+    no_break-append (ordinal m) (codes " " ++ attribute_text attributes m) (no_break-decimal (m + 1)) (no_break-attribute attributes m h)
 no_break-reply attributes Keeps h = refl
 no_break-reply attributes (Breaks place i) h = no_break-rule attributes place i h
 no_break-reply attributes (Refuted place r) h = no_break-row place r

@@ -9,8 +9,8 @@ use Rattle.fca_model.specs.declared.Reply.TheVariants.{SupersededRow, Superseded
 use Rattle.expert_wire.specs.Texts.{line_end, ordinal, pattern, full_text}
 
 -- the name of an attribute. It is empty if there is no such attribute
-abbrev pub attribute_name : List Text → ℕ → Text
-attribute_name attributes m = unwrap_or (slice_get attributes m) []
+abbrev pub attribute_text : List Text → ℕ → Text
+attribute_text attributes m = unwrap_or (slice_get attributes m) []
 
 -- `I PATTERN`
 abbrev pub numbered_row : ℕ → Set → Text
@@ -29,7 +29,7 @@ reply_text attributes (Accepted place) = codes "accepted " ++ ordinal place
 reply_text attributes (Taken place) = codes "taken " ++ ordinal place
 reply_text attributes Left = codes "left"
 reply_text attributes NotHeld = codes "not held"
-reply_text attributes (Misses m) = codes "misses " ++ (ordinal m ++ (codes " " ++ attribute_name attributes m))
+reply_text attributes (Misses m) = codes "misses " ++ (ordinal m ++ (codes " " ++ attribute_text attributes m))
 reply_text attributes Keeps = codes "keeps"
 reply_text attributes (Breaks place i) = codes "breaks " ++ numbered_rule attributes place i
 reply_text attributes (Refuted place r) = codes "refuted " ++ numbered_row place r

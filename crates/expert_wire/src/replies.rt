@@ -5,7 +5,7 @@ ghost use Rattle.std.specs.Io.KnownBytes.{Appends, Keeps};
 ghost use Rattle.fca_io.specs.Faults.{Rose};
 ghost use Rattle.fca_io.specs.Transfers.{AppendsFront};
 ghost use Rattle.expert_wire.specs.Texts.{line_end, ordinal, full_text};
-ghost use Rattle.expert_wire.specs.Replies.{attribute_name, numbered_row, numbered_rule, reply_line};
+ghost use Rattle.expert_wire.specs.Replies.{attribute_text, numbered_row, numbered_rule, reply_line};
 ghost use Rattle.expert_wire.specs.Parts.{WritesTo};
 
 use crate::parts::{Part, write_parts};
@@ -142,7 +142,7 @@ pub(crate) fn write_full_text<K: Sink>(
 /// Writes the line of the attribute that a row lacks: its number and its name.
 fn write_misses<K: Sink>(sink: &mut K, table: &Table, attribute: u32) -> Result<(), Put>
     ensures { WritesTo K.held K.faults K.beside K.read_counts_beside sink.old sink.new
-        ((codes "misses " ++ (ordinal attribute ++ (codes " " ++ attribute_name table.now.attributes attribute))) ++ line_end) result }
+        ((codes "misses " ++ (ordinal attribute ++ (codes " " ++ attribute_text table.now.attributes attribute))) ++ line_end) result }
 {
     write_parts(
         sink,
@@ -151,15 +151,15 @@ fn write_misses<K: Sink>(sink: &mut K, table: &Table, attribute: u32) -> Result<
             Part::Bytes(b"misses "),
             Part::Ordinal(attribute as usize),
             Part::Bytes(b" "),
-            Part::Bytes(name_of(table, attribute)),
+            Part::Bytes(attribute_text(table, attribute)),
             Part::Bytes(b"\n"),
         ],
     )
 }
 
 /// The name of the attribute. It is empty if the table has no such attribute.
-fn name_of(table: &Table, attribute: u32) -> &[u8]
-    ensures { result.now ≡ attribute_name table.now.attributes attribute }
+fn attribute_text(table: &Table, attribute: u32) -> &[u8]
+    ensures { result.now ≡ attribute_text table.now.attributes attribute }
 {
     if attribute < table.rows().width() {
         table.attribute_name(attribute).bytes()

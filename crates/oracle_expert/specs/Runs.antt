@@ -45,9 +45,9 @@ module _ {M : Type 0} (Answering : M → Rule → Answer → M → Type 0) (Lear
     pub learns : Learning between entry.reply new
 
   -- the entry of what is due: a draw, or the answer to the question
-  abbrev pub IsTurn : Option Rule → M → SetEntry → M → Type 0
-  IsTurn None old entry new = (entry.event ≡ Draw e) × (new ≡ old)
-  IsTurn (Some q) old entry new = IsAnswered q old entry new
+  abbrev pub IsDueEntry : Option Rule → M → SetEntry → M → Type 0
+  IsDueEntry None old entry new = (entry.event ≡ Draw e) × (new ≡ old)
+  IsDueEntry (Some q) old entry new = IsAnswered q old entry new
 
   -- no entry more: if a question is due, the expert may have answered it, and the answer came to no entry
   abbrev pub Stops : Option Rule → M → M → Type 0
@@ -62,7 +62,7 @@ module _ {M : Type 0} (Answering : M → Rule → Answer → M → Type 0) (Lear
   -- the run from a moment at which this question is due, which stops in this way
   abbrev pub RunsTo : (Option Rule → M → M → Type 0) → Option Rule → M → List SetEntry → M → Type 0
   RunsTo Stopping due old [] new = Stopping due old new
-  RunsTo Stopping due old (entry ∷ rest) new = (next : M) × IsTurn due old entry next × StopsAtDone entry.reply rest
+  RunsTo Stopping due old (entry ∷ rest) new = (next : M) × IsDueEntry due old entry next × StopsAtDone entry.reply rest
       × RunsTo Stopping (question_after due entry.reply) next rest new
 
   abbrev pub RunsFrom : Option Rule → M → List SetEntry → M → Type 0

@@ -15,7 +15,7 @@ use Rattle.explore_state.specs.History.{Opening, ExploreModel}
 use Rattle.oracle_expert.specs.Oracles.{Recall, no_conflict, untold}
 use Rattle.oracle_expert.specs.Runs.{ends_done}
 use Rattle.oracle_expert.specs.Intents.{HasIntentsOf, are_intents}
-use Rattle.expert_panel.specs.Explorations.{HasEnded, HasFewRows, IsOraclesShare, EachNumbered, IsWithinTurns, HasAgreed, HasEvenRows}
+use Rattle.expert_panel.specs.Explorations.{HasEnded, HasFewRows, IsOraclesShare, EachNumbered, IsWithinMostTurns, HasAgreed, HasEvenRows}
 use Rattle.expert_panel.proofs.ShareLemmas.{untold_free}
 use Rattle.expert_panel.proofs.EndingLemmas.{untold_all, untold_tables, tables_all, IfOk-mono}
 use Rattle.expert_panel.proofs.CourseLemmas.{respecting_new, known_holds, within_turns, never_spent, agreed}
@@ -99,8 +99,8 @@ returns-clause-spent g c =
     (λ r ended. subst (λ (n : ℕ). (r.spent ≡ true)
     ↔ ((e : ℕ) × (1 ≤ e) × (e ≤ n) × (ends_done (own r.explore.journal e) ≡ false))) many ended.spent) c.run_oracles.ensures
 
-pub returns-clause-turns : goal.returns-clause-turns
-returns-clause-turns g c =
+pub returns-clause-bound : goal.returns-clause-bound
+returns-clause-bound g c =
     let gate = c.in_ok-gate.gate in
     let before = c.in_ok-oracles.oracles.items in
     let respecting = based c.args.explore gate.base c.in_ok-gate.ensures.opening
@@ -113,7 +113,7 @@ returns-clause-turns g c =
     let number = c.experts-experts.ensures.number in
     let all = c.requires.experts in
     IfOk-mono (λ r. HasEnded gate before r.explore r.oracles.items r.spent)
-    (λ r. EachNumbered (IsWithinTurns r.explore.journal) r.oracles.items) c.run_oracles.result
+    (λ r. EachNumbered (IsWithinMostTurns r.explore.journal) r.oracles.items) c.run_oracles.result
     (λ r ended. let same = as_many r.oracles.items before ended.tables in
     within_turns gate.base r.explore.journal gate.turns r.oracles.items respecting holders ended.is_legal (omega arith) ended.shares)
     c.run_oracles.ensures
