@@ -62,7 +62,7 @@ returns-in-ReadFault g c = Writes-equal (ap (λ (name : Text). placed_line name 
     ∙ ap (stop_line c.args.file.now) (sym c.in-ReadFault.is)) c.write_whole-in-ReadFault.ensures
 
 pub returns-in-ListenerFault : goal.returns-in-ListenerFault
-returns-in-ListenerFault g c = Writes-equal (ap (stop_line c.args.file.now) (sym c.in-Listener.is)) c.write_plain-in-Listener.ensures
+returns-in-ListenerFault g c = Writes-equal (ap (stop_line c.args.file.now) (sym c.in-ListenerFault.is)) c.write_plain-in-ListenerFault.ensures
 
 pub returns-in-Memory : goal.returns-in-Memory
 returns-in-Memory g c = Writes-equal (ap (stop_line c.args.file.now) (sym c.in-Memory.is)) c.write_plain-in-Memory.ensures
