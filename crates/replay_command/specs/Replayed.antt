@@ -110,7 +110,7 @@ IsSettingsStop (Some file) table said stop = (line : ℕ) × (said.second ≡ So
 -- the stop for the script on the input, or, if that was read, for its settings
 abbrev pub IsInputStop : Option Text → NamedContext → Option Text → Type 0 → Stop → Type 0
 IsInputStop known_file table input rose stop = IsScriptStop table.context.width input rose stop
-    ⊎ ((said : ScriptContent) × MayRead (script_read table.context.width input) said × IsSettingsStop known table said stop)
+    ⊎ ((said : ScriptContent) × MayRead (script_read table.context.width input) said × IsSettingsStop known_file table said stop)
 
 -- The stop for the files of a replay, or, if these were read, for its script
 abbrev pub IsReplayStop : Text → Option Text → (Text → Told) → Option Text → (Text → Type 0) → Type 0 → Stop → Type 0
